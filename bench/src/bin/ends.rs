@@ -1,9 +1,10 @@
 //! `ends FILE..`: the ends of the first record of each chain question of a sheet, and the starts of its last, by its expression: the engine beside a plain
-//! search, and beside all pairs by rows. Microseconds, in one run. Fails if an answer differs.
+//! search, and beside all pairs by rows. Microseconds, in one run. `ends --growth`: of made-up sheets with n from 64 to 1,024. Fails if an answer differs.
 
 use bench::answer::{microseconds, timed};
 use bench::chains;
 use bench::expression::{read, Expression};
+use bench::made;
 use bench::register::{Edit, Register as Plain};
 use bench::sheet::{Question, Sheet};
 use dating::{calls, rows_work, Register};
@@ -21,13 +22,16 @@ fn main() -> ExitCode {
     let mut differences = 0;
     println!("| Sheet | Kind | Count | Engine, median | Total | Ratio | Plain, total | Pairs by rows, total |");
     println!("|---|---|---|---|---|---|---|---|");
-    for file in std::env::args().skip(1) {
-        match Sheet::read(Path::new(&file)) {
-            Ok(sheet) => differences += compare(&sheet),
-            Err(message) => {
-                eprintln!("{message}");
-                return ExitCode::FAILURE;
-            }
+    let files: Vec<String> = std::env::args().skip(1).collect();
+    let sheets = match &files[..] {
+        [only] if only == "--growth" => Ok([64, 128, 256, 512, 1024].map(made::sheet).to_vec()),
+        files => files.iter().map(|file| Sheet::read(Path::new(file))).collect::<Result<Vec<_>, _>>(),
+    };
+    match sheets {
+        Ok(sheets) => differences += sheets.iter().map(compare).sum::<usize>(),
+        Err(message) => {
+            eprintln!("{message}");
+            return ExitCode::FAILURE;
         }
     }
     if differences == 0 {

@@ -1,4 +1,15 @@
--- Laws of the crossings that are of use: one more looked at, and left out or taken; both of a link. Assumes nothing.
+-- Laws of the crossings that are of use.
+--   crossings-none  before the first
+--   crossings-no, crossings-yes
+--                   one more looked at, and left out or taken
+--   put-most, crossings-put
+--                   the same as the code does it
+--   first, crossings-link
+--                   both crossings of a link
+--   no-use-none, no-use-more
+--                   links of no use: none, and one more
+--   crossings-pass  they are passed over
+-- Assumes nothing.
 use mathlib.Core.Path.{_≡_, refl, sym, ap, _∙_, subst}
 use mathlib.Core.List.{List}
 use Prim.Native.Nat.{ℕ, zero, suc, _+_, _*_, _/_, _%_, _<_, _≤_}
@@ -6,7 +17,7 @@ use native.Mathlib.Omega.{arith}
 use lib.ListN.{length, getD, set}
 use lib.Seq.{getD-set-same, getD-set-other}
 use Rattle.automaton.specs.LevelLaws.{Which, less, same, more, which}
-use Rattle.arcs.specs.Arcs.{arcOf, crossingAt, Crossings, PutIf}
+use Rattle.arcs.specs.Arcs.{arcOf, crossingAt, Crossings, NoUse, PutIf}
 use Rattle.arcs.specs.ArcLaws.{says-forward, says-against}
 
 pub crossings-none : (ws es cs : List ℕ) → Crossings ws es 0 cs 0
@@ -69,3 +80,39 @@ module _ (i : ℕ) {ws es cs : List ℕ} {k : ℕ} (I : Crossings ws es (2 * i) 
       let o : (2 * i + 1) % 2 ≡ 1 = omega arith in
       let n : 2 * i + 1 + 1 ≡ 2 * (i + 1) = omega arith in
       subst (λ (m : ℕ). Crossings ws es m cs₂ k₂) n (crossings-put first l₁ (rw (h, o, says-against (getD ws i 0) .letter) refl) (rw (h, o) refl) Q)
+
+-- links of no use passed over
+pub no-use-none : (ws es : List ℕ) (a : ℕ) → NoUse ws es a a
+no-use-none ws es a = record { forward = λ i g h. absurd (omega arith); against = λ i g h. absurd (omega arith) }
+
+pub no-use-more : {ws es : List ℕ} {a i : ℕ} → NoUse ws es a i → getD es (getD ws i 0 / 1048576 % 32 * 2) 0 ≡ 0
+    → getD es (getD ws i 0 / 1048576 % 32 * 2 + 1) 0 ≡ 0 → NoUse ws es a (i + 1)
+no-use-more {ws} {es} {a} {i} N e f = record { forward = λ j g h. fd j g h (which j i); against = λ j g h. ag j g h (which j i) }
+  where
+    fd : (j : ℕ) → a ≤ j → j < i + 1 → Which j i → getD es (getD ws j 0 / 1048576 % 32 * 2) 0 ≡ 0
+    fd j g h (less z) = N .forward j g z
+    fd j g h (same z) = rw z e
+    fd j g h (more z) = absurd (omega arith)
+
+    ag : (j : ℕ) → a ≤ j → j < i + 1 → Which j i → getD es (getD ws j 0 / 1048576 % 32 * 2 + 1) 0 ≡ 0
+    ag j g h (less z) = N .against j g z
+    ag j g h (same z) = rw z f
+    ag j g h (more z) = absurd (omega arith)
+
+pub crossings-pass : {ws es cs : List ℕ} {a b k : ℕ} → Crossings ws es (2 * a) cs k → a ≤ b → NoUse ws es a b → Crossings ws es (2 * b) cs k
+crossings-pass {ws} {es} {cs} {a} {b} {k} I l N =
+    record { from = λ i h. (let g = I .from i h in (g .0, omega arith, g .2)); all = λ j h o. go j h o (which j (2 * a)) }
+  where
+    -- a crossing of such a link
+    unused : (j : ℕ) → a ≤ j / 2 → j / 2 < b → (s : ℕ) → j % 2 ≡ s → s < 2 → getD es (crossingAt ws j / 1048576) 0 ≡ 0
+    unused j g h zero e z = rw (e, says-forward (getD ws (j / 2) 0) .letter) (N .forward (j / 2) g h)
+    unused j g h (suc zero) e z = rw (e, says-against (getD ws (j / 2) 0) .letter) (N .against (j / 2) g h)
+    unused j g h (suc (suc s)) e z = absurd (omega arith)
+
+    here : (j : ℕ) → 2 * a ≤ j → j < 2 * b → 0 < getD es (crossingAt ws j / 1048576) 0 → (i : ℕ) × (i < k) × (getD cs i 0 ≡ crossingAt ws j)
+    here j g h o = absurd (let z = unused j (omega arith) (omega arith) (j % 2) refl (omega arith) in omega arith)
+
+    go : (j : ℕ) → j < 2 * b → 0 < getD es (crossingAt ws j / 1048576) 0 → Which j (2 * a) → (i : ℕ) × (i < k) × (getD cs i 0 ≡ crossingAt ws j)
+    go j h o (less f) = I .all j f o
+    go j h o (same f) = here j (omega arith) h o
+    go j h o (more f) = here j (omega arith) h o

@@ -3,7 +3,7 @@ ghost use mathlib.Core.Path.{_≡_};
 ghost use Prim.Native.Nat.{_*_, _<_, _≤_};
 ghost use lib.ListN.{length};
 ghost use Rattle.book.specs.Causes.{maxRecords, maxLinks};
-ghost use Rattle.arcs.specs.Arcs.{maxArcs, arcOf, arcFrom, arcTo, Crossings, PutIf};
+ghost use Rattle.arcs.specs.Arcs.{maxArcs, arcOf, arcFrom, arcTo, Crossings, NoUse, PutIf};
 ghost use Rattle.arcs.specs.Index.{indexWords, keyAt, firstArc, nextArc, Indexed};
 
 // Each link may be crossed in two senses.
@@ -37,19 +37,39 @@ fn put(arcs: &mut [u32], count: usize, arc: u32, states: u64) -> usize
     count + 1
 }
 
+// The first link from the place `at` on of which a letter enters a state: its place, or the number of links if there is none.
+fn next_of_use(links: &[u32], enter: &[u64], at: usize) -> usize
+    requires { ⌜ (at ≤ length (now links)) × (length (now enter) ≡ 64) ⌝ }
+    ensures { λ r. ⌜ (at ≤ r) × (r ≤ length (now (links .entry))) × NoUse (now (links .entry)) (now (enter .entry)) at r ⌝ }
+{
+    let mut i = at;
+    while i < links.len() {
+        let letter = (links[i] / 1048576 % 32 * 2) as usize;
+        if enter[letter] != 0 {
+            return i;
+        }
+        if enter[letter + 1] != 0 {
+            return i;
+        }
+        i += 1;
+    }
+    links.len()
+}
+
 // The crossings that can be of use, into `arcs`: each link in each sense whose letter enters a state. How many are they?
 pub fn arcs_of(links: &[u32], enter: &[u64], arcs: &mut [u32]) -> usize
-    requires { ⌜ (length (now links) ≤ maxLinks) × (length (now enter) ≡ 64) × (length (now arcs) ≡ maxArcs) ⌝ }
-    ensures { λ r. ⌜ (r ≤ maxArcs) × Crossings (now (links .entry)) (now (enter .entry)) (2 * length (now (links .entry))) (now (arcs .exit)) r ⌝ }
+    requires { ⌜ (length (now links) ≤ maxLinks) × (length (now enter) ≡ 64) × (2 * length (now links) ≤ length (now arcs)) ⌝ }
+    ensures { λ r. ⌜ (r ≤ 2 * length (now (links .entry))) × Crossings (now (links .entry)) (now (enter .entry))
+        (2 * length (now (links .entry))) (now (arcs .exit)) r ⌝ }
 {
     let mut count = 0;
-    let mut i = 0;
+    let mut i = next_of_use(links, enter, 0);
     while i < links.len() {
         let link = links[i];
         let letter = (link / 1048576 % 32 * 2) as usize;
         count = put(arcs, count, arc(link, 0), enter[letter]);
         count = put(arcs, count, arc(link, 1), enter[letter + 1]);
-        i += 1;
+        i = next_of_use(links, enter, i + 1);
     }
     count
 }

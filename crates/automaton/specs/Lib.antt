@@ -7,5 +7,6 @@ pub mod AutomatonLaws
 pub mod Masks
 pub mod Searches
 pub mod LevelLaws
+pub mod LowestLaws
 pub mod WalkLaws
 pub mod ShortChainLaws

@@ -21,12 +21,13 @@ use Rattle.book.specs.SetLaws.{and-both, eqb-test, has-without, without-absent,
 use Rattle.paths.specs.Expressions.{Expr, letters}
 use Rattle.paths.specs.Chains.{Graph, Step, spell, Answers, NotAfter, shorter, as-long, First}
 use Rattle.paths.specs.ChainLaws.{Inside, crossing-in}
+use Rattle.paths.specs.FirstChainLaws.{length-step-words}
 use Rattle.automaton.specs.Automata.{Automaton, automaton, started}
 use Rattle.automaton.specs.AutomatonLaws.{words-run}
 use Rattle.automaton.specs.TraceLaws.{within}
 use Rattle.automaton.specs.Searches.{Walk, Moves}
 use Rattle.automaton.specs.LevelLaws.{walk-more, walk-less}
-use Rattle.automaton.specs.WalkLaws.{length-stepWords, answers-walk}
+use Rattle.automaton.specs.WalkLaws.{answers-walk}
 
 pub distinct-few : (k : ℕ) (l : List ℕ) → Distinct eqb l → ((v : ℕ) → has eqb v l ≡ true → v < k) → length l ≤ k
 distinct-few zero l d b = go l b
@@ -140,7 +141,7 @@ module _ (g : Graph) (I : Inside g) (e : Expr) (y : ℕ) where
       by ps p (inr d) =
           let a : Answers g e x y (d .0) =
           record { begins = f .answers .begins; ends = f .answers .ends; chain = d .2 .chain; spells = words-run e (spell (d .0)) .1 (d .2 .run) } in
-          absurd (omega (arith, not-longer (f .least (d .0) a), length-stepWords ss, length-stepWords (d .0), d .1))
+          absurd (omega (arith, not-longer (f .least (d .0) a), length-step-words ss, length-step-words (d .0), d .1))
 
 pub chains-63 : (g : Graph) → Inside g → (e : Expr) → letters e ≤ 63 → (x y : ℕ) (ss : List Step) → First g e x y ss → length ss ≤ 63 * g .n
 chains-63 g I e h x y ss f = let m : letters e * g .n ≤ 63 * g .n = mul-le-mul-right (g .n) h in omega (arith, first-short g I e y x ss f)

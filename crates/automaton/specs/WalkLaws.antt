@@ -15,16 +15,12 @@ use lib.ListN.{length}
 use Rattle.paths.specs.Expressions.{Expr}
 use Rattle.paths.specs.Chains.{Graph, Step, stepWord, spell, stepWords, Answers, Before, same as same-words, smaller, alike, NotAfter, shorter, as-long, First}
 use Rattle.paths.specs.Words.{Words}
+use Rattle.paths.specs.FirstChainLaws.{length-step-words}
 use Rattle.automaton.specs.Automata.{On, is, Automaton, automaton, Run}
 use Rattle.automaton.specs.SetLaws.{on-is, is-on}
 use Rattle.automaton.specs.AutomatonLaws.{words-run}
 use Rattle.automaton.specs.Searches.{Walk, Reach, Known, Best, Picks}
 use Rattle.automaton.specs.LevelLaws.{walk-more, walk-less, Which, less, same, more, which}
-
-pub length-stepWords : (ss : List Step) → length (stepWords ss) ≡ length ss
-unfolding stepWords
-length-stepWords [] = refl
-length-stepWords (s ∷ ss) = ap suc (length-stepWords ss)
 
 module _ {g : Graph} {M : Automaton} {y : ℕ} where
   pub best-more : {G K : ℕ → ℕ} {r m : ℕ} {s : Step} {ss : List Step} → Picks g M y G r m s K → Best g M y K (s .reached) m ss → Best g M y G r (suc m) (s ∷ ss)
@@ -70,7 +66,7 @@ module _ {g : Graph} {y n l x : ℕ} {d : ℕ → ℕ → ℕ} (e : Expr) (K : K
       spells = words-run e (spell ss) .1 (subst (λ (q : ℕ). Run (automaton e) q (spell ss)) (on-is 0 (B .from) (B .among)) (B .walk .run))
 
       least : (ts : List Step) → Answers g e x y ts → NotAfter (stepWords ss) (stepWords ts)
-      least ts a = go (which (length ts) m) (length-stepWords ss) (length-stepWords ts) (B .long)
+      least ts a = go (which (length ts) m) (length-step-words ss) (length-step-words ts) (B .long)
         where
           go : Which (length ts) m → length (stepWords ss) ≡ length ss
               → length (stepWords ts) ≡ length ts → length ss ≡ m → NotAfter (stepWords ss) (stepWords ts)

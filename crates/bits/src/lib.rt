@@ -87,7 +87,7 @@ pub fn next(words: &[u64], lo: usize, end: usize) -> usize
     }
     let rest = words[q] >> (lo % 64);
     if rest != 0 {
-        return place(lo, rest, end);
+        return lowest_set(lo, rest, end);
     }
     q += 1;
     let past = end / 64;
@@ -96,7 +96,7 @@ pub fn next(words: &[u64], lo: usize, end: usize) -> usize
             return end;
         }
         if words[q] != 0 {
-            return place(q * 64, words[q], end);
+            return lowest_set(q * 64, words[q], end);
         }
         q += 1;
     }
@@ -104,7 +104,7 @@ pub fn next(words: &[u64], lo: usize, end: usize) -> usize
 }
 
 // The place of the lowest digit of w that is set, the lowest digit of all being at `at`; at most `end`.
-fn place(at: usize, w: u64, end: usize) -> usize
+fn lowest_set(at: usize, w: u64, end: usize) -> usize
     requires { ⌜ at ≤ end ⌝ }
     ensures { λ r. ⌜ r ≡ min end (at + trailingZeros 64 w) ⌝ }
 {

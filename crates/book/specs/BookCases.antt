@@ -21,7 +21,7 @@
 -- Assumes nothing.
 use mathlib.Core.Path.{_≡_, refl, ap}
 use mathlib.Core.List.{List, [], _∷_, _++_, map}
-use mathlib.Core.Bool.{Bool, true, false}
+use mathlib.Core.Bool.{false}
 use Prim.Native.Nat.{ℕ, zero, suc, _+_, _/_, _%_, _<_}
 use native.Mathlib.Omega.{arith}
 use lib.ListN.{length, replicate}
@@ -31,7 +31,7 @@ use Rattle.book.specs.Causes.{number, firstNumber, maxLinks}
 use Rattle.book.specs.Book.{Link, sameLink, Sheet, add, remove, lock, unlock, withdraw, reinstate, Call, edit, undo, close, touched, causes, editAnswer}
 use Rattle.book.specs.Book.{edited, turned, undoAnswer, undone, rank, closedSheet, closeCauses, closeAnswer, closed, newNumbers, closeGiven, freshAnswer}
 use Rattle.book.specs.Book.{total, totalNumber, answer, next, given, fresh, answers, after, givens}
-use Rattle.book.specs.SetLaws.{sameLink-test}
+use Rattle.book.specs.OrderLaws.{unlike}
 
 abbrev link : ℕ → ℕ → ℕ → Link
 link f l t = record { from = f; label = l; to = t }
@@ -233,17 +233,10 @@ unfolding firstLinks
 length-first zero = refl
 length-first (suc j) = ap suc (length-first j)
 
-apart : (i k : Link) → (i ≡ k → ⊥) → sameLink i k ≡ false
-apart i k d = go (sameLink i k) refl
-  where
-    go : (t : Bool) → sameLink i k ≡ t → t ≡ false
-    go true e = absurd (d (sameLink-test .sound i k e))
-    go false e = refl
-
 first-absent : (k : Link) (j : ℕ) → ((i : ℕ) → i < j → nth i ≡ k → ⊥) → has sameLink k (firstLinks j) ≡ false
 unfolding firstLinks has
 first-absent k zero d = refl
-first-absent k (suc j) d = rw (apart (nth j) k (d j (omega arith))) (first-absent k j (λ i h. d i (omega arith)))
+first-absent k (suc j) d = rw (unlike (nth j) k (d j (omega arith))) (first-absent k j (λ i h. d i (omega arith)))
 
 nth-apart : (i j : ℕ) → i < j → nth i ≡ nth j → ⊥
 nth-apart i j h e =

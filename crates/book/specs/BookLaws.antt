@@ -37,7 +37,8 @@ use Rattle.book.specs.Book.{next, fresh, after}
 use Rattle.book.specs.Sheets.{Distinct, Proper, Fit, Sound}
 use Rattle.book.specs.RankLaws.{rank-le}
 use Rattle.book.specs.CloseLaws.{closed-fit}
-use Rattle.book.specs.SetLaws.{sameLink-test, eqb-test, and-both, or-neither, or-true, has-in, in-has, has-without, absent-without, distinct-without}
+use Rattle.book.specs.SetLaws.{sameLink-test, eqb-test, and-both, or-neither, or-else, or-true, has-in, in-has, has-without, absent-without}
+use Rattle.book.specs.SetLaws.{distinct-without}
 use Rattle.book.specs.SetLaws.{length-without}
 
 -- ---- causes
@@ -136,10 +137,6 @@ first-proper n k t cs e =
     let w = first-none withdrawn-record t _ (p .1) in
     let h = first-none bad-label _ cs (w .1) in
     (record { from = leb-false _ _ (q .0); label = leb-false labels (k .label) (h .0); to = leb-false _ _ (q .1) }, w .0, h .1)
-
-or-else : (b c : Bool) → (b || c) ≡ true → (P : Type 0) → (b ≡ true → P) → (c ≡ true → P) → P
-or-else true c e P f g = f refl
-or-else false c e P f g = g e
 
 -- a record that a link touches is an end of a link, and the other way round
 pub touched-end : (r : ℕ) (l : List Link) → touched r l ≡ true → (k : Link) × In k l × ((k .from ≡ r) ⊎ (k .to ≡ r))

@@ -1,11 +1,24 @@
--- Laws of membership in a list, and of ascending lists: two with the same members are equal. Assumes nothing.
-use mathlib.Core.Path.{_≡_, refl, sym, ap, ap₂, subst}
+-- Laws of lists.
+--   in-left, in-right, in-either, in-none, in-front, in-one
+--                  membership in a joined list, in none, in one by its front
+--   in-at, at-in   a member stands at a place, and what stands at a place is a member
+--   map-in, length-map, in-map
+--                  the members and the length of a mapped list
+--   rises-least, rises-from, rises-map
+--                  an ascending list: its least member, from a lower number on, mapped
+--   rises-same     two with the same members are equal
+--   rest-whole, rest-length
+--                  the part of a list from a place on, as code cuts it
+--   length-over    a list written over a front
+-- Assumes nothing.
+use mathlib.Core.Path.{_≡_, refl, sym, ap, ap₂, subst, _∙_}
 use mathlib.Core.Logic.{_⊎_, inl, inr, ⊎-elim}
 use mathlib.Core.List.{List, [], _∷_, _++_, map}
-use Prim.Native.Nat.{ℕ, zero, suc, _≤_, _<_}
-use lib.ListN.{length, getD}
+use Prim.Native.Nat.{ℕ, zero, suc, _-_, _≤_, _<_}
+use lib.ListN.{length, getD, take, drop, length-drop, length-append}
+use lib.Seq.{take-all}
 use native.Mathlib.Omega.{arith}
-use Rattle.book.specs.Basics.{In, here, there, Rises, ended, rises}
+use Rattle.book.specs.Basics.{In, here, there, Rises, ended, rises, over}
 
 -- ---- membership
 module _ {A : Type 0} where
@@ -89,3 +102,14 @@ rises-same (w ∷ l) (v ∷ j) (rises h r) (rises p q) f b = go (rises-same l j 
     go ih = ap₂ (λ (x : ℕ) (t : List ℕ). x ∷ t) e (ih
         (λ u i. ⊎-elim (λ p. absurd (omega (arith, rises-least r i, e))) (λ i′. i′) (in-front (f u (there i)) refl))
         (λ u i. ⊎-elim (λ p. absurd (omega (arith, rises-least q i, e))) (λ i′. i′) (in-front (b u (there i)) refl)))
+
+-- ---- the part of a list from a place on, as code cuts it
+pub rest-whole : (l : List ℕ) (at : ℕ) → take (length l - at) (drop at l) ≡ drop at l
+rest-whole l at = take-all (length l - at) (drop at l) (omega (arith, length-drop at l))
+
+pub rest-length : (l : List ℕ) (at : ℕ) → length (take (length l - at) (drop at l)) ≡ length l - at
+rest-length l at = ap length (rest-whole l at) ∙ length-drop at l
+
+-- a list written over a front
+pub length-over : (g l : List ℕ) → length g ≤ length l → length (over g l) ≡ length l
+length-over g l h = length-append g (drop (length g) l) ∙ omega (arith, length-drop (length g) l)

@@ -96,7 +96,7 @@ module _ {A : Type 0} (same : A → A → Bool) where
       go false p false q ih = rw (p, q) (ap (λ (l : List A). z ∷ l) ih)
 
 -- ---- what an add or a remove leaves
-unlike : (j k : Link) → (j ≡ k → ⊥) → sameLink j k ≡ false
+pub unlike : (j k : Link) → (j ≡ k → ⊥) → sameLink j k ≡ false
 unlike j k h = go (sameLink j k) refl
   where
     go : (t : Bool) → sameLink j k ≡ t → t ≡ false

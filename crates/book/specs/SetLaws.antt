@@ -32,6 +32,10 @@ pub or-neither : (a b : Bool) → (a || b) ≡ false → (a ≡ false) × (b ≡
 or-neither true b e = absurd (true≢false e)
 or-neither false b e = (refl, e)
 
+pub or-else : (b c : Bool) → (b || c) ≡ true → (P : Type 0) → (b ≡ true → P) → (c ≡ true → P) → P
+or-else true c e P f g = f refl
+or-else false c e P f g = g e
+
 pub or-true : (a : Bool) → (a || true) ≡ true
 or-true true = refl
 or-true false = refl

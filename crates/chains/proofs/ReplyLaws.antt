@@ -11,14 +11,14 @@
 use mathlib.Core.Path.{_≡_, refl, sym, ap, _∙_, subst}
 use mathlib.Core.Logic.{_⊎_, inl, inr}
 use mathlib.Core.List.{List, _++_}
-use mathlib.Core.Bool.{Bool, true}
+use mathlib.Core.Bool.{true}
 use Prim.Native.Nat.{ℕ, _*_, _≤_, _<_}
 use native.Mathlib.Omega.{arith}
 use lib.ListN.{length, take, drop, take-append-drop}
 use lib.Seq.{length-take-le}
 use borrow.Author.Tests.{le-leb, lt-leb, le-ltb, lt-ltb}
 use Rattle.book.specs.Causes.{no-record, short-work, short-list, number, Caused, firstNumber}
-use Rattle.book.specs.Book.{Book}
+use Rattle.book.specs.Book.{Book, isWithdrawn}
 use Rattle.book.specs.SetLaws.{or-true}
 use Rattle.answers.specs.Answers.{counted}
 use Rattle.answers.specs.AnswerLaws.{contained-refused, contained-count}
@@ -27,12 +27,10 @@ use Rattle.paths.specs.Grammar.{Verdict, accepted, long, outside, large, verdic
 use Rattle.paths.specs.Verdicts.{verdict}
 use Rattle.paths.specs.Chains.{Graph, asked, Step, Answers, Reply, none as no-reply, chain as chain-reply, ChainIs, no-chain, first-chain}
 use Rattle.paths.specs.PairLaws.{withdrawn-none, none-withdrawn, verdict-caused}
-use Rattle.paths.specs.FirstChainLaws.{reply-only}
+use Rattle.paths.specs.FirstChainLaws.{reply-only, length-step-words}
 use Rattle.paths.specs.Questions.{refused, replied, ReplyTo, chainWork, steps, chainCauses, chainAnswer, listAfter}
 use Rattle.register.specs.declared.Register.{Register}
 use Rattle.register.specs.Representation.{Represents}
-use Rattle.register.specs.Questions.{Withdrawal}
-use Rattle.automaton.specs.WalkLaws.{length-stepWords}
 use Rattle.search.specs.Steps.{Untouched, written, none as none-found, too-long, Answered, first, none, short}
 use Rattle.search.specs.declared.Found.{Found}
 use Rattle.search.specs.declared.Found.the-variants.{Steps, Nowhere, Short}
@@ -49,13 +47,12 @@ nowhere c = go c refl
     go (first-chain ss F) q = absurd (let z : _≡_ {A = ℕ} 0 1 = cc in omega arith)
 
 -- ---- withdrawn records
-module _ {self : Register} {b : Book} (R : Represents self b) where
-  module _ (e : Expr) (x y : ℕ) (list : List ℕ) where
-    pub withdrawn-from : {t : Bool} → Withdrawal self x t → t ≡ true → Answered (asked b) e x y list list Nowhere
-    withdrawn-from w f = nowhere (withdrawn-none b e x y (sym (w .withdrawn b R) ∙ f))
+module _ (b : Book) (e : Expr) (x y : ℕ) (list : List ℕ) where
+  pub withdrawn-from : isWithdrawn (b .sheet) x ≡ true → Answered (asked b) e x y list list Nowhere
+  withdrawn-from w = nowhere (withdrawn-none b e x y w)
 
-    pub withdrawn-to : {t : Bool} → Withdrawal self y t → t ≡ true → Answered (asked b) e x y list list Nowhere
-    withdrawn-to w f = nowhere (none-withdrawn b e x y (sym (w .withdrawn b R) ∙ f))
+  pub withdrawn-to : isWithdrawn (b .sheet) y ≡ true → Answered (asked b) e x y list list Nowhere
+  withdrawn-to w = nowhere (none-withdrawn b e x y w)
 
 -- ---- the book's answer, by the first cause
 module _ (b : Book) (x y : ℕ) (t : Reply) (work room : ℕ) where
@@ -97,7 +94,7 @@ reply-long : {g : Graph} {e : Expr} {x y : ℕ} {t : Reply} → ChainIs g e x y 
     → Answers g e x y ss → ((ts : List Step) → Answers g e x y ts → length ss ≤ length ts) → length ss ≤ length (steps t)
 unfolding steps
 reply-long (no-chain h) ss s l = absurd (h ss s)
-reply-long (first-chain ts F) ss s l = let z = l ts (F .answers) in let y = length-stepWords ts in omega arith
+reply-long (first-chain ts F) ss s l = let z = l ts (F .answers) in let y = length-step-words ts in omega arith
 
 -- ---- the promise
 module _ {self : Register} {x y : ℕ} {text : List ℕ} {work : ℕ} {list : List ℕ} where

@@ -10,7 +10,7 @@ ghost use Rattle.paths.specs.Chains.{asked};
 ghost use Rattle.paths.specs.Verdicts.{InLimits};
 ghost use Rattle.reader.specs.Code.{code};
 ghost use Rattle.register.specs.Representation.{Represents};
-ghost use Rattle.arcs.specs.Arcs.{Spans};
+ghost use Rattle.register.specs.Reads.{ReadOf};
 ghost use Rattle.search.specs.Steps.{Untouched, Answered};
 ghost use Rattle.chains.specs.Replies.{Replies};
 use reader::Answer;
@@ -25,26 +25,29 @@ pub enum ChainAnswer {
     Refused(u32),
 }
 
-// The search, over the first `count` links, for the expression whose code is given; from or to a withdrawn record there is nothing to be found.
+// The search over the links for the expression whose code is given; from or to a withdrawn record there is nothing to be found.
 fn sought(
-    register: Register,
+    marks: &[u32],
     links: &[u32],
-    count: usize,
     numbers: &[u64],
     ends: Ends,
     work: &mut [u64],
     list: &mut [u32],
 ) -> Found
-    requires { ⌜ (count ≤ length (now links)) × (count ≤ maxLinks) × (ends .n ≤ maxRecords) × (ends .from < ends .n) × (ends .to < ends .n)
-        × (ends .n * 64 ≤ length (now work)) × ((text : List ℕ) × (e : Expr) × InLimits text e × (now numbers ≡ code e)) ⌝ }
+    requires { ⌜ (length (now marks) ≤ maxRecords) × (length (now links) ≤ maxLinks) × (ends .n ≡ length (now marks)) × (ends .from < ends .n)
+        × (ends .to < ends .n) × (ends .n * 64 ≤ length (now work))
+        × ((text : List ℕ) × (e : Expr) × InLimits text e × (now numbers ≡ code e)) ⌝ }
     ensures { λ r. ⌜ Untouched (now (list .entry)) (now (list .exit)) r
-        × ((text : List ℕ) (e : Expr) → InLimits text e → now (numbers .entry) ≡ code e → (b : Book) → Represents register b → ends .n ≡ b .n
-        → Spans (now (links .entry)) count (asked b) → Answered (asked b) e (ends .from) (ends .to) (now (list .entry)) (now (list .exit)) r) ⌝ }
+        × ((text : List ℕ) (e : Expr) → InLimits text e → now (numbers .entry) ≡ code e → (self : Register) (b : Book) → Represents self b
+        → ReadOf self (now (marks .entry)) (now (links .entry))
+        → Answered (asked b) e (ends .from) (ends .to) (now (list .entry)) (now (list .exit)) r) ⌝ }
 {
-    if register.is_withdrawn(ends.from as u16) {
+    let from = ends.from;
+    let to = ends.to;
+    if marks[from] == register::WITHDRAWN_MARK {
         return Found::Nowhere;
     }
-    if register.is_withdrawn(ends.to as u16) {
+    if marks[to] == register::WITHDRAWN_MARK {
         return Found::Nowhere;
     }
     let tables = tables::tables_of(numbers, false);
@@ -53,7 +56,7 @@ fn sought(
     let enter = tables.enter;
     let accepting = tables.accepting;
     search::first_chain(
-        &links[0..count],
+        links,
         &follow,
         &predecessors,
         &enter,
@@ -64,18 +67,21 @@ fn sought(
     )
 }
 
-// The first of the shortest chains from one record to another that spell a word of the expression.
-pub fn chain(
-    register: Register,
+// The first of the shortest chains from one record to another that spell a word of the expression, over the marks and links that are lent of a register.
+pub fn chain_over(
+    marks: &[u32],
+    links: &[u32],
     from: u16,
     to: u16,
     text: &[u8],
     work: &mut [u64],
     list: &mut [u32],
 ) -> ChainAnswer
-    ensures { λ r. ⌜ Replies register from to (now (text .entry)) (length (now (work .entry))) (now (list .entry)) (now (list .exit)) r ⌝ }
+    requires { ⌜ (length (now marks) ≤ maxRecords) × (length (now links) ≤ maxLinks) ⌝ }
+    ensures { λ r. ⌜ ((self : Register) → ReadOf self (now (marks .entry)) (now (links .entry))
+        → Replies self from to (now (text .entry)) (length (now (work .entry))) (now (list .entry)) (now (list .exit)) r) ⌝ }
 {
-    let n = register.size();
+    let n = marks.len();
     let x = from as usize;
     let y = to as usize;
     if n <= x {
@@ -93,17 +99,8 @@ pub fn chain(
             if work.len() < n * 64 {
                 return ChainAnswer::Refused(book::SHORT_WORK);
             }
-            let links = register.links();
             let ends = Ends { n, from: x, to: y };
-            let found = sought(
-                register,
-                &links.words,
-                links.count,
-                &code[0..k],
-                ends,
-                work,
-                list,
-            );
+            let found = sought(marks, links, &code[0..k], ends, work, list);
             match found {
                 Found::Steps(steps) => ChainAnswer::Chain(steps),
                 Found::Nowhere => ChainAnswer::NoChain,
@@ -111,4 +108,23 @@ pub fn chain(
             }
         }
     }
+}
+
+// The same of a register.
+pub fn chain(
+    register: Register,
+    from: u16,
+    to: u16,
+    text: &[u8],
+    work: &mut [u64],
+    list: &mut [u32],
+) -> ChainAnswer
+    ensures { λ r. ⌜ Replies register from to (now (text .entry)) (length (now (work .entry))) (now (list .entry)) (now (list .exit)) r ⌝ }
+{
+    let n = register.size();
+    let marks = register.marks();
+    let links = register.links();
+    let words = links.words;
+    let count = links.count;
+    chain_over(&marks[0..n], &words[0..count], from, to, text, work, list)
 }

@@ -16,7 +16,7 @@ use lib.ListN.{length, drop}
 use borrow.Author.Tests.{le-leb, lt-leb}
 use Rattle.book.specs.Basics.{ended}
 use Rattle.book.specs.Causes.{no-record, number, Caused, firstNumber, maxRecords}
-use Rattle.book.specs.Book.{Book}
+use Rattle.book.specs.Book.{Book, isWithdrawn}
 use Rattle.book.specs.ListLaws.{in-none}
 use Rattle.paths.specs.Expressions.{Expr}
 use Rattle.paths.specs.Grammar.{Verdict, accepted, long, outside, large, verdictCause}
@@ -34,26 +34,26 @@ use Rattle.answers.specs.declared.Counted.the-variants.{Count, Refused}
 use Rattle.paths.specs.Questions.{refused, countOf, listAfter}
 use Rattle.register.specs.declared.Register.{Register}
 use Rattle.register.specs.Representation.{Represents}
-use Rattle.register.specs.Questions.{Withdrawal}
 use Rattle.tables.specs.Builds.{inSense}
 use Rattle.arcs.specs.SpanLaws.{inside}
 use Rattle.search.specs.Reaching.{Ended}
-use Rattle.ends.specs.Ends.{places, ends, joinedBy, endsCauses, endsAnswer}
+use Rattle.rows.specs.Rows.{places}
+use Rattle.ends.specs.Ends.{ends, joinedBy, endsCauses, endsAnswer}
 use Rattle.ends.specs.EndsLaws.{places-same, ends-only, joined-as}
 use Rattle.ends.specs.MadeLaws.{answer-ends}
 use Rattle.ends.specs.Asking.{AsksJoined}
 use Rattle.ends.specs.Listing.{meets}
 
 -- ---- the ends
-module _ (against : Bool) {self : Register} {b : Book} (R : Represents self b) where
-  pub ends-none : (e : Expr) (x : ℕ) {t : Bool} → Withdrawal self x t → t ≡ true → [] ≡ joinedBy against (asked b) e x
-  ends-none e x w f =
-      ends-only (asked b) (inside R) (inSense against e) x [] (record {
-        ascending = ended;
-        sound = λ y i. absurd (in-none i refl);
-        whole = λ y h. absurd (false≢true (sym (withdrawn-out b x (sym (w .withdrawn b R) ∙ f)) ∙ h .1 .begins));
-      })
-      ∙ joined-as against (asked b) e x
+pub ends-none : (against : Bool) {self : Register} {b : Book} → Represents self b → (e : Expr) (x : ℕ) → isWithdrawn (b .sheet) x ≡ true
+    → [] ≡ joinedBy against (asked b) e x
+ends-none against {b = b} R e x w =
+    ends-only (asked b) (inside R) (inSense against e) x [] (record {
+      ascending = ended;
+      sound = λ y i. absurd (in-none i refl);
+      whole = λ y h. absurd (false≢true (sym (withdrawn-out b x w) ∙ h .1 .begins));
+    })
+    ∙ joined-as against (asked b) e x
 
 seen-ends : (g : Graph) → Inside g → (e : Expr) {x f n : ℕ} {seen : List ℕ} → g .n ≡ n → Ended g e x f seen → places (meets seen f) n ≡ ends g e x
 unfolding ends meets

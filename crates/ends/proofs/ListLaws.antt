@@ -1,17 +1,15 @@
 -- Laws of listing: the places of a function one by one.
 --   set-none, set-some
 --                   a number if a value is not 0
---   places-next, places-short
---                   one place more; no more places than numbers
+--   places-next     one place more
 -- Assumes nothing.
 use mathlib.Core.Path.{_≡_, refl}
 use mathlib.Core.List.{[], _∷_, _++_}
-use Prim.Native.Nat.{ℕ, zero, suc, _+_, _≤_, _<_}
+use Prim.Native.Nat.{ℕ, zero, suc, _+_, _<_}
 use native.Mathlib.Numerals.{add-one}
 use native.Mathlib.Omega.{arith}
-use lib.ListN.{length, length-append}
 use Rattle.k2.specs.PairSets.{ifSet}
-use Rattle.ends.specs.Ends.{places}
+use Rattle.rows.specs.Rows.{places}
 
 -- ---- places
 pub set-none : (v y : ℕ) → v ≡ 0 → ifSet v y ≡ []
@@ -25,12 +23,3 @@ set-some (suc v) y h = refl
 pub places-next : (f : ℕ → ℕ) (y : ℕ) → places f (y + 1) ≡ places f y ++ ifSet (f y) y
 unfolding places
 places-next f y = rw (add-one y)
-
-pub places-short : (f : ℕ → ℕ) (m : ℕ) → length (places f m) ≤ m
-unfolding places
-places-short f zero = omega arith
-places-short f (suc m) = go (f m) (places-short f m)
-  where
-    go : (v : ℕ) → length (places f m) ≤ m → length (places f m ++ ifSet v m) ≤ suc m
-    go zero h = let z = length-append (places f m) [] in omega arith
-    go (suc v) h = let z = length-append (places f m) (m ∷ []) in omega arith

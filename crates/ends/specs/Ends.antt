@@ -1,5 +1,4 @@
 -- The records that a chain joins to one record: its ends and its starts; and the answers of the questions for them, refusals included.
---   places f m      the numbers below m at which f is not 0, ascending
 --   Exactly P l     the numbers of l ascend, and are those of which P holds
 --   EndsAre g e x l
 --                   the list l is the answer for the ends of x: the records y such that (x, y) has a chain
@@ -16,24 +15,20 @@
 --   endsAnswer against b x v room
 --                   its outcome with room for so many in the list: how many records there are in all, and the first of them, as many as there is room for
 -- Assumes nothing: these are definitions.
-use mathlib.Core.List.{List, [], _∷_, _++_}
+use mathlib.Core.List.{List, [], _∷_}
 use mathlib.Core.Bool.{Bool, true, false}
-use Prim.Native.Nat.{ℕ, zero, suc}
+use Prim.Native.Nat.{ℕ}
 use lib.ListN.{length, take}
 use lib.Dec.{leb}
 use Rattle.book.specs.Basics.{In, Rises}
 use Rattle.book.specs.Causes.{Cause, no-record, firstNumber}
 use Rattle.book.specs.Book.{Book}
-use Rattle.k2.specs.PairSets.{ifSet}
 use Rattle.paths.specs.Expressions.{Expr}
 use Rattle.paths.specs.Grammar.{Verdict, accepted, long, outside, large, verdictCause}
 use Rattle.paths.specs.Chains.{Graph, asked, Has}
 use Rattle.paths.specs.Relations.{cells}
 use Rattle.paths.specs.Questions.{Outcome, paired, unless}
-
-unfoldable pub places : (ℕ → ℕ) → ℕ → List ℕ
-places f zero = []
-places f (suc m) = places f m ++ ifSet (f m) m
+use Rattle.rows.specs.Rows.{places}
 
 pub record Exactly (P : ℕ → Type 0) (l : List ℕ) : Type 0 where
   pub ascending : Rises 0 l

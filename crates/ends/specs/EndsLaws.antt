@@ -36,7 +36,8 @@ use Rattle.paths.specs.Relations.{cells, pairs}
 use Rattle.paths.specs.RelationLaws.{cells-has}
 use Rattle.paths.specs.PairLaws.{pairs-are}
 use Rattle.tables.specs.Builds.{inSense}
-use Rattle.ends.specs.Ends.{places, Exactly, EndsAre, StartsAre, ends, starts, joinedBy, endsCauses}
+use Rattle.rows.specs.Rows.{places}
+use Rattle.ends.specs.Ends.{Exactly, EndsAre, StartsAre, ends, starts, joinedBy, endsCauses}
 
 -- ---- places
 in-set : (v m y : ℕ) → In y (ifSet v m) → (y ≡ m) × (1 ≤ v)

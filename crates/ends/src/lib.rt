@@ -11,8 +11,9 @@ ghost use Rattle.paths.specs.Chains.{asked};
 ghost use Rattle.paths.specs.Verdicts.{InLimits};
 ghost use Rattle.reader.specs.Code.{code};
 ghost use Rattle.register.specs.Representation.{Represents};
-ghost use Rattle.arcs.specs.Arcs.{Spans};
-ghost use Rattle.ends.specs.Ends.{places, joinedBy};
+ghost use Rattle.register.specs.Reads.{ReadOf};
+ghost use Rattle.rows.specs.Rows.{places};
+ghost use Rattle.ends.specs.Ends.{joinedBy};
 ghost use Rattle.answers.specs.Listing.{Shown, Grown};
 ghost use Rattle.ends.specs.Asking.{AsksJoined, AsksEnds, AsksStarts};
 ghost use Rattle.ends.specs.Listing.{meets};
@@ -47,40 +48,47 @@ fn list(seen: &[u64], states: u64, n: usize, out: &mut [u32]) -> usize
     t
 }
 
-// The ends of a record over the first `count` links, for the expression whose code is given; against the sense, its starts. A withdrawn record has none.
+// The ends of a record over the links, for the expression whose code is given; against the sense, its starts. A withdrawn record has none.
 fn sought(
-    register: Register,
+    marks: &[u32],
     links: &[u32],
-    count: usize,
     numbers: &[u64],
     against: bool,
-    n: usize,
     x: usize,
     out: &mut [u32],
 ) -> usize
-    requires { ⌜ (count ≤ length (now links)) × (count ≤ maxLinks) × (n ≤ maxRecords) × (x < n)
+    requires { ⌜ (length (now marks) ≤ maxRecords) × (length (now links) ≤ maxLinks) × (x < length (now marks))
         × ((text : List ℕ) × (e : Expr) × InLimits text e × (now numbers ≡ code e)) ⌝ }
     ensures { λ r. ⌜ ((l : List ℕ) × (r ≡ length l) × (r ≤ maxRecords) × Shown l (now (out .entry)) (now (out .exit))
-        × ((text : List ℕ) (e : Expr) → InLimits text e → now (numbers .entry) ≡ code e → (b : Book) → Represents register b → n ≡ b .n
-        → Spans (now (links .entry)) count (asked b) → l ≡ joinedBy against (asked b) e x)) ⌝ }
+        × ((text : List ℕ) (e : Expr) → InLimits text e → now (numbers .entry) ≡ code e → (self : Register) (b : Book) → Represents self b
+        → ReadOf self (now (marks .entry)) (now (links .entry)) → l ≡ joinedBy against (asked b) e x)) ⌝ }
 {
-    if register.is_withdrawn(x as u16) {
+    if marks[x] == register::WITHDRAWN_MARK {
         return 0;
     }
+    let n = marks.len();
     let tables = tables::tables_of(numbers, against);
     let follow = tables.follow;
     let enter = tables.enter;
-    let seen = search::reached(&links[0..count], &follow, &enter, n, x);
+    let seen = search::reached(links, &follow, &enter, n, x);
     list(&seen, tables.accepting, n, out)
 }
 
-// The records that a chain joins to the one, in either sense.
-fn joined(register: Register, to: u16, text: &[u8], against: bool, out: &mut [u32]) -> Counted
-    ensures { λ r. ⌜ AsksJoined against register to (now (text .entry)) (now (out .entry)) (now (out .exit)) r ⌝ }
+// The records that a chain joins to the one, in either sense, over the marks and links that are lent of a register.
+pub fn joined_over(
+    marks: &[u32],
+    links: &[u32],
+    to: u16,
+    text: &[u8],
+    against: bool,
+    out: &mut [u32],
+) -> Counted
+    requires { ⌜ (length (now marks) ≤ maxRecords) × (length (now links) ≤ maxLinks) ⌝ }
+    ensures { λ r. ⌜ ((self : Register) → ReadOf self (now (marks .entry)) (now (links .entry))
+        → AsksJoined against self to (now (text .entry)) (now (out .entry)) (now (out .exit)) r) ⌝ }
 {
-    let n = register.size();
     let x = to as usize;
-    if n <= x {
+    if marks.len() <= x {
         return Counted::Refused(book::NO_RECORD);
     }
     let reading = reader::read(text);
@@ -88,33 +96,32 @@ fn joined(register: Register, to: u16, text: &[u8], against: bool, out: &mut [u3
     let answer = reading.answer;
     match answer {
         Answer::Refused(number) => Counted::Refused(number as u32),
-        Answer::Accepted(k) => {
-            let links = register.links();
-            let total = sought(
-                register,
-                &links.words,
-                links.count,
-                &code[0..k],
-                against,
-                n,
-                x,
-                out,
-            );
-            Counted::Count(total)
-        }
+        Answer::Accepted(k) => Counted::Count(sought(marks, links, &code[0..k], against, x, out)),
     }
+}
+
+// The same of a register.
+fn list_joined(register: Register, to: u16, text: &[u8], against: bool, out: &mut [u32]) -> Counted
+    ensures { λ r. ⌜ AsksJoined against register to (now (text .entry)) (now (out .entry)) (now (out .exit)) r ⌝ }
+{
+    let n = register.size();
+    let marks = register.marks();
+    let links = register.links();
+    let words = links.words;
+    let count = links.count;
+    joined_over(&marks[0..n], &words[0..count], to, text, against, out)
 }
 
 // Every record that a chain leads to from the one, spelling a word of the expression: ascending, as many as the list takes.
 pub fn ends(register: Register, from: u16, text: &[u8], out: &mut [u32]) -> Counted
     ensures { λ r. ⌜ AsksEnds register from (now (text .entry)) (now (out .entry)) (now (out .exit)) r ⌝ }
 {
-    joined(register, from, text, false, out)
+    list_joined(register, from, text, false, out)
 }
 
 // Every record from which a chain leads to the one, likewise.
 pub fn starts(register: Register, to: u16, text: &[u8], out: &mut [u32]) -> Counted
     ensures { λ r. ⌜ AsksStarts register to (now (text .entry)) (now (out .entry)) (now (out .exit)) r ⌝ }
 {
-    joined(register, to, text, true, out)
+    list_joined(register, to, text, true, out)
 }

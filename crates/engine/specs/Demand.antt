@@ -32,7 +32,7 @@ use Rattle.paths.specs.Chains.{Graph, asked, Step, stepWords, Answers, First}
 use Rattle.paths.specs.Relations.{PairsAre}
 use Rattle.paths.specs.Questions.{Engine, workFor, chainWork, over}
 use Rattle.register.specs.History.{Lent, Gives}
-use Rattle.register.specs.Links.{Linked}
+use Rattle.links.specs.Links.{Linked}
 use Rattle.register.specs.Marks.{freeMark, markOf}
 use Rattle.chains.specs.declared.ChainAnswer.{ChainAnswer}
 use Rattle.chains.specs.declared.ChainAnswer.the-variants.{Chain, NoChain}

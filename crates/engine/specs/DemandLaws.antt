@@ -27,12 +27,12 @@ use Rattle.paths.specs.Grammar.{Verdict, accepted, long, outside, large, Judged
 use Rattle.paths.specs.Chains.{asked, Step, stepWords, Answers, First, Reply, none, chain, ChainIs, no-chain, first-chain}
 use Rattle.paths.specs.Relations.{pairs}
 use Rattle.paths.specs.PairLaws.{fit-inside, pairs-are, first-part}
-use Rattle.paths.specs.FirstChainLaws.{has-first}
+use Rattle.paths.specs.FirstChainLaws.{has-first, length-step-words}
 use Rattle.paths.specs.GraphLaws.{some-reply}
-use Rattle.paths.specs.Verdicts.{verdict, verdict-right, verdict-only}
+use Rattle.paths.specs.Verdicts.{verdict, verdict-right, verdict-only, accepted-same}
 use Rattle.paths.specs.Questions.{Outcome, refused, replied, unless, workFor, chainWork, ReplyTo, steps, chainCauses, chainAnswer}
 use Rattle.paths.specs.Questions.{pairsCauses, pairsAnswer, over, listAfter, countOf, Tells}
-use Rattle.register.specs.Links.{Linked}
+use Rattle.links.specs.Links.{Linked}
 use Rattle.register.specs.Representation.{Represents}
 use Rattle.register.specs.Calls.{Opens}
 use Rattle.register.specs.History.{Gives, CallsMade, wordCall, wordAnswers, isCall, callsOf, toldCalls}
@@ -41,7 +41,6 @@ use Rattle.register.specs.declared.Register.{Register}
 use Rattle.register.specs.declared.Outcome.{Outcome as Told}
 use Rattle.query.specs.Asking.{AsksFor}
 use Rattle.query.specs.AskingLaws.{outcome-short, outcome-paired}
-use Rattle.automaton.specs.WalkLaws.{length-stepWords}
 use Rattle.chains.specs.Replies.{outcomeOf, chainCounted, Replies}
 use Rattle.chains.specs.declared.ChainAnswer.{ChainAnswer}
 use Rattle.chains.specs.declared.ChainAnswer.the-variants.{Chain, NoChain, Refused as NotAnswered}
@@ -113,9 +112,6 @@ module _ {e : Register} {b : Book} (R : Represents e b) (x y : ℕ) (text : List
 
   reply-to : (t : Reply) → ChainIs (asked b) f x y t → ReplyTo (asked b) (verdict text) x y t
   reply-to t c g q = let z : f ≡ g = accepted-same (read-as ∙ q) in subst (λ (k : Expr). ChainIs (asked b) k x y t) z c
-    where
-      accepted-same : {g : Expr} → accepted f ≡ accepted g → f ≡ g
-      accepted-same e = cc
 
   outcome : (t : Reply) → ChainIs (asked b) f x y t → length (steps t) ≤ length before → (outcomeOf a after′ ≡ replied t) × (after′ ≡ over (steps t) before)
   unfolding listAfter
@@ -148,7 +144,7 @@ module _ {e : Register} {b : Book} (R : Represents e b) (x y : ℕ) (text : List
   first-handed : (ss : List Step) → First (asked b) f x y ss → length ss ≤ length before → (a ≡ Chain (length ss)) × (after′ ≡ over (stepWords ss) before)
   unfolding steps
   first-handed ss F h =
-      let n = length-stepWords ss in
+      let n = length-step-words ss in
       let o = outcome (chain (stepWords ss)) (first-chain ss F) (omega arith) in
       (says-chain (stepWords ss) (o .0) (o .1) (omega arith) ∙ ap Chain n, o .1)
 
@@ -238,7 +234,7 @@ chain-handed {r} {b} R q Q k p = go (some .0) refl (J .0) (subst (λ (v : Verdic
             → q .after ≡ listAfter (replied (chain ws)) (q .before) → (e : Expr) × Judged (q .text) (accepted e) × FirstHanded b e q k
         ahead e j ws s (first-chain ss F) l =
             let t : take k (q .after) ≡ stepWords ss = cc in
-            (e, j, (ss, F, steps-told k (stepWords ss) (q .before) (q .after) fits t l ∙ length-stepWords ss, l))
+            (e, j, (ss, F, steps-told k (stepWords ss) (q .before) (q .after) fits t l ∙ length-step-words ss, l))
 
 -- a question that is told there is no chain was accepted, and there is none of any length
 none-said : {r : Register} {b : Book} → Represents r b → (q : ChainAsked)

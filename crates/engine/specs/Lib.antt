@@ -8,6 +8,3 @@ pub mod TwoPeople
 pub mod TwoPeopleLaws
 pub mod Closing
 pub mod ClosingLaws
-pub mod Drafts
-pub mod Inner
-pub mod DraftLaws

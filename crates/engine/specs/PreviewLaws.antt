@@ -1,5 +1,4 @@
 -- Laws of previews.
---   by-number        an answer by its number
 --   accepted-as      an accepted call is accepted by every book that the register represents
 --   preview-refused  a refused call's number, with the list as it was, is what a preview promises
 --   preview-asked    what the question gives on the register that an accepted call hands back is what a preview promises
@@ -22,7 +21,7 @@ use Rattle.paths.specs.Verdicts.{verdict}
 use Rattle.paths.specs.Questions.{refused, Outcome as Question·Outcome, by-trees, by-rows, unless, pairsWork, rowsWork, pairsAnswer, listAfter, countOf, Tells}
 use Rattle.register.specs.Representation.{Represents}
 use Rattle.register.specs.Calls.{answerNumber, Steps}
-use Rattle.register.specs.HistoryLaws.{number-answer}
+use Rattle.register.specs.HistoryLaws.{number-answer, by-number}
 use Rattle.register.specs.Made.{MadeBy}
 use Rattle.register.specs.declared.Register.{Register}
 use Rattle.register.specs.declared.Outcome.{Outcome}
@@ -34,10 +33,6 @@ use Rattle.engine.specs.BookLaws.{made-book}
 use Rattle.engine.specs.Previews.{previewAnswer, Previews}
 
 -- an answer by its number: no cause has the number 0
-pub by-number : (a : Answer) (k : ℕ) → k ≡ answerNumber a → (k ≡ 0 → ⊥) → a ≡ Turned-down k
-by-number Done k e z = absurd (z e)
-by-number (Turned-down j) k e z = ap Turned-down (sym e)
-
 by-zero : (a : Answer) (k : ℕ) → ((j : ℕ) → a ≡ Turned-down j → Caused j) → k ≡ answerNumber a → k ≡ 0 → a ≡ Done
 by-zero Done k c e z = refl
 by-zero (Turned-down j) k c e z = absurd (omega (arith, e, z, caused-positive (c j refl)))

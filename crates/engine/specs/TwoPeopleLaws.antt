@@ -21,7 +21,7 @@ use Rattle.paths.specs.Chains.{Graph, asked, chain}
 use Rattle.paths.specs.Questions.{Outcome as Question·Outcome, refused, paired, replied, steps, ReplyTo, chainAnswer, over, listAfter}
 use Rattle.paths.specs.PairLaws.{fit-inside}
 use Rattle.paths.specs.GraphLaws.{same-graph, same-pairs, same-chain, some-reply}
-use Rattle.register.specs.Links.{Linked}
+use Rattle.links.specs.Links.{Linked}
 use Rattle.register.specs.Marks.{freeMark, markOf}
 use Rattle.register.specs.Representation.{Represents}
 use Rattle.register.specs.Calls.{answerOf, Steps}

@@ -5,13 +5,13 @@ mod drafts;
 mod previews;
 
 pub use chains::chain;
-pub use drafts::Applied;
-pub use drafts::DraftAnswer;
 pub use drafts::apply_all;
 pub use ends::ends as ends_of;
 pub use ends::starts as starts_of;
 pub use pairs::pairs;
 pub use previews::preview;
+pub use register::Applied;
+pub use register::DraftAnswer;
 pub use rowpairs::pairs_by_rows;
 pub use rowpairs::relation;
 pub use tree::closure as tree_closure;

@@ -36,7 +36,7 @@ use Rattle.paths.specs.Questions as questions
 use Rattle.k2.specs.Bits.{digit}
 use Rattle.k2.specs.PairSets.{IsSet}
 use Rattle.register.specs.declared.Register.{Register}
-use Rattle.register.specs.Links.{Linked}
+use Rattle.links.specs.Links.{Linked}
 use Rattle.register.specs.Marks.{hasMark, withdrawnMark}
 use Rattle.register.specs.MarkLaws.{listed-withdrawn}
 use Rattle.register.specs.Representation.{Represents}

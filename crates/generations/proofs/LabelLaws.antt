@@ -15,20 +15,18 @@ use mathlib.Core.Path.{_≡_, refl, sym, ap, ap₂, _∙_}
 use mathlib.Core.List.{List, [], _∷_, _++_, append-assoc, append-nil}
 use mathlib.Core.Bool.{Bool, true, false, _||_}
 use Prim.Native.Nat.{ℕ, zero, suc, _+_, _*_, _/_, _%_, _^_, _<_, _≤_}
-use native.Mathlib.Nat.{one-mul}
 use native.Mathlib.Numerals.{add-one}
 use native.Mathlib.Omega.{arith}
 use native.Mathlib.Decide.{ℕ-discrete}
 use lib.Bits.{bitOr}
-use lib.Dec.{leb, eqb, lit<}
+use lib.Dec.{leb, eqb}
 use lib.ListN.{length, getD, set, take, drop, length-set, drop-of-length-le}
-use lib.Pow.{shl-exact}
 use lib.Seq.{drop-cons, take-suc, take-suc-set, length-take-le}
 use borrow.Author.Tests.{le-leb, lt-leb, leb-false, eq-eqb, ne-eqb, eqb-true, eqb-false}
 use Rattle.book.specs.Basics.{pick, bit, has}
 use Rattle.book.specs.SetLaws.{or-neither, or-true}
 use Rattle.k2.specs.Bits.{digit}
-use Rattle.k2.specs.DigitLaws.{digit-none, digit-lt}
+use Rattle.k2.specs.DigitLaws.{digit-none, digit-lt, one-shl-32}
 use Rattle.k2.specs.PairSets.{ifSet}
 use Rattle.bits.specs.BitSets.{put}
 use Rattle.bits.specs.BitSetLaws.{put-at, put-off, digit-or-pow}
@@ -64,10 +62,6 @@ above-none (l ∷ ls) e zero h = small (leb 26 l) refl (or-neither (leb 26 l) (a
 above-none (l ∷ ls) e (suc i) h = above-none ls (or-neither (leb 26 l) (above ls) e .1) i (omega arith)
 
 -- ---- the set of labels
--- `1 << r` at a width of 32
-one-shl : (r : ℕ) → r < 32 → (1 * 2 ^ r) % 2 ^ 32 ≡ 2 ^ r
-one-shl r h = shl-exact 1 r 32 (lit< tt) (omega arith) ∙ one-mul (2 ^ r)
-
 or-false : (t : Bool) → (t || false) ≡ t
 or-false true = refl
 or-false false = refl
@@ -91,7 +85,7 @@ contains-more m ls i h g C l =
     let k : ℕ = getD ls i 0 in
     let e : has eqb l (take (i + 1) ls) ≡ (has eqb l (take i ls) || eqb k l) =
     ap (λ (j : ℕ). has eqb l (take j ls)) (add-one i) ∙ ap (has eqb l) (take-suc ls i 0 h) ∙ has-last l (take i ls) k in
-    ap (λ (v : ℕ). digit (bitOr m v) l) (one-shl k (omega arith)) ∙ digit-or-pow m k l ∙ go k (ℕ-discrete l k) ∙ ap bit (sym e)
+    ap (λ (v : ℕ). digit (bitOr m v) l) (one-shl-32 k (omega arith)) ∙ digit-or-pow m k l ∙ go k (ℕ-discrete l k) ∙ ap bit (sym e)
   where
     go : (k : ℕ) → Dec (l ≡ k) → put k 1 (digit m) l ≡ bit (has eqb l (take i ls) || eqb k l)
     go k (yes q) = ap (put k 1 (digit m)) q ∙ put-at k 1 (digit m) ∙ rw (eq-eqb k l (sym q), or-true (has eqb l (take i ls)))

@@ -30,8 +30,8 @@ use Rattle.paths.specs.PairLaws.{fit-inside}
 use Rattle.paths.specs.Relations.{crossedBy}
 use Rattle.paths.specs.RelationLaws.{crossed-is, is-crossed, crossed-set}
 use Rattle.reader.specs.Letters.{lettersIn}
-use Rattle.register.specs.Links.{linkWord, linkOf, Linked}
-use Rattle.register.specs.LinkLaws.{linkOf-word}
+use Rattle.links.specs.Links.{linkWord, linkOf, Linked}
+use Rattle.links.specs.LinkLaws.{linkOf-word}
 use Rattle.rows.specs.Rows.{labelled, crossedWords}
 use Rattle.query.specs.LetterLaws.{letters-crossed}
 use Rattle.arcs.specs.Arcs.{arcFrom, arcTo}

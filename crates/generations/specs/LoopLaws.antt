@@ -3,7 +3,6 @@
 --   loop-verdict   its text is accepted
 --   plain-words, loop-words
 --                  the words of that expression are those of one or more of these letters, plain
---   length-places  a set of n labels has at most n
 --   loop-in-use, loop-labels
 --                  a loop has a first step, so its record is in use and the set of labels is not empty
 --   loop-answers, answers-loop
@@ -38,6 +37,7 @@ use Rattle.paths.specs.Chains.{Graph, Step, Chain, stay, cross, spell, Answers,
 use Rattle.paths.specs.ChainLaws.{Inside, crossing-in, crossing-label}
 use Rattle.automaton.specs.LevelLaws.{Which, less, same, more, which}
 use Rattle.rows.specs.Rows.{places}
+use Rattle.rows.specs.RowLaws.{length-places}
 use Rattle.generations.specs.Generations.{Over, Loop, FirstLoop}
 use Rattle.generations.specs.Inner.{Contains, lettersAfter, loopText}
 
@@ -208,15 +208,6 @@ place-in f (suc n) k h p = go (which k n) (place-in f n k)
     go (less l) i = in-left (ifSet (f n) n) (i l p)
     go (same e) i = in-right (places f n) (subst (λ (j : ℕ). In j (ifSet (f n) n)) (sym e) (last (f n) (subst (λ (j : ℕ). 0 < f j) e p)))
     go (more l) i = absurd (omega arith)
-
-pub length-places : (f : ℕ → ℕ) (n : ℕ) → length (places f n) ≤ n
-unfolding places
-length-places f zero = omega arith
-length-places f (suc n) = let z = length-append (places f n) (ifSet (f n) n) in let y = one (f n) in let i = length-places f n in omega arith
-  where
-    one : (v : ℕ) → length (ifSet v n) ≤ 1
-    one zero = omega arith
-    one (suc v) = omega arith
 
 -- ---- loops and chains
 module _ (g : Graph) (I : Inside g) (m : ℕ) (ls : List ℕ) (C : Contains m ls) where

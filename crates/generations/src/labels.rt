@@ -2,7 +2,6 @@
 ghost use mathlib.Core.Path.{_≡_};
 ghost use mathlib.Core.Bool.{false};
 ghost use Prim.Native.Nat.{_≤_};
-ghost use lib.Dec.{eqb};
 ghost use lib.ListN.{length, take};
 ghost use Rattle.book.specs.Causes.{maxLinks};
 ghost use Rattle.k2.specs.Bits.{digit};
@@ -13,9 +12,6 @@ ghost use Rattle.generations.specs.Inner.{Contains, separatorAt, letters
 
 // Labels are below this.
 const LABELS: u32 = book::LABELS as u32;
-
-// A link's word by this is its label.
-const LABEL_UNIT: u32 = 1048576;
 
 // The most bytes of the text of a loop: a letter and the byte before it for each label, and two more.
 pub const TEXT_BYTES: usize = 2 * book::LABELS + 2;
@@ -48,16 +44,6 @@ pub fn set_of(labels: &[u8]) -> u32
     set
 }
 
-// Is a label in the set?
-fn in_set(set: u32, label: u32) -> bool
-    ensures { λ r. ⌜ r ≡ eqb (digit set label) 1 ⌝ }
-{
-    if 32 <= label {
-        return false;
-    }
-    (set >> label) % 2 == 1
-}
-
 // The words of the links whose label is in the set, into `kept`. How many are they?
 pub fn keep(words: &[u32], set: u32, kept: &mut [u32]) -> usize
     requires { ⌜ (length (now words) ≤ maxLinks) × (length (now kept) ≡ maxLinks) ⌝ }
@@ -67,7 +53,7 @@ pub fn keep(words: &[u32], set: u32, kept: &mut [u32]) -> usize
     let mut i = 0;
     while i < words.len() {
         let word = words[i];
-        if in_set(set, word / LABEL_UNIT) {
+        if rows::has_label(set, links::label_of(word)) {
             kept[count] = word;
             count += 1;
         }
@@ -77,14 +63,14 @@ pub fn keep(words: &[u32], set: u32, kept: &mut [u32]) -> usize
 }
 
 // The letters of the set, each after a byte: ( before the first, | before every other. How many bytes are they?
-fn put_letters(set: u32, text: &mut [u8]) -> usize
+fn spell_labels(set: u32, text: &mut [u8]) -> usize
     requires { ⌜ length (now text) ≡ 54 ⌝ }
     ensures { λ r. ⌜ (r ≤ 52) × (take r (now (text .exit)) ≡ lettersAfter open-group (places (digit set) 26)) ⌝ }
 {
     let mut count = 0;
     let mut label: u32 = 0;
     while label < LABELS {
-        if in_set(set, label) {
+        if rows::has_label(set, label) {
             text[count] = separator(count);
             text[count + 1] = b'a' + label as u8;
             count += 2;
@@ -109,7 +95,7 @@ pub fn put_text(set: u32, text: &mut [u8]) -> usize
     requires { ⌜ length (now text) ≡ 54 ⌝ }
     ensures { λ r. ⌜ (r ≤ 54) × (take r (now (text .exit)) ≡ loopText (places (digit set) 26)) ⌝ }
 {
-    let count = put_letters(set, text);
+    let count = spell_labels(set, text);
     text[count] = b')';
     text[count + 1] = b'+';
     count + 2

@@ -72,7 +72,7 @@ fn first_joined(rows: &[u64], n: usize) -> usize
 {
     let mut x = 0;
     while x < n {
-        if bits::bit(rows, x * 1024 + x) == 1 {
+        if bits::bit(rows, x * book::MAX_RECORDS + x) == 1 {
             return x;
         }
         x += 1;
@@ -85,7 +85,7 @@ fn first_returning(words: &[u32], set: u32, n: usize) -> usize
     requires { ⌜ n ≤ maxRecords ⌝ }
     ensures { λ r. ⌜ (r ≤ n) × (IsSet n (crossedWords (now (words .entry)) set 0) → Smallest (Closed n (crossedWords (now (words .entry)) set 0)) n r) ⌝ }
 {
-    let mut rows = [0u64; 16384];
+    let mut rows = [0u64; k2::ROWS_WORDS];
     rows::put_letters(words, set, 0, &mut rows);
     grid::close_rows(&mut rows, n);
     first_joined(&rows, n)

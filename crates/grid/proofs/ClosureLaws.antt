@@ -1,477 +1,65 @@
--- Laws of the closure by searches: what a search has seen and found, and the rows closed one after another.
---   first-bit, empty-row  a cell of the rows is 0 or 1; a row with no mask is empty
---   merged-here, merged-else, merged-self
---                         a row merged into another, as rows of the relation: this one, every other, and into itself
---   clean-merged, clean-past
---                         clean words after that, if no column from n on is merged in; they hold none
---   LookedTo n p f g r    r is a column that is not seen, or those below p are
---   lacks, looked-gap, fresh-found, looked-word
---                         the bits that a set lacks; words that are not in the mask; a column found in a word; a word looked at
---   Adding w b m c ws vs vs′
---                         a row added to a set, up to word c
---   adding-none, adding-gap, adding-word
---                         so before the first word, over words that are not in the mask, a word more
---   Search n a x r v      r is among what x leads to by a, with the columns of a x, and with all that the seen, v, lead to in one step
---   search-done           all that is found is seen: the row is closed
---   search-plain, search-whole
---                         a record more is seen, whose row is that of a, or is closed already
---   back-done             records that lead to one another lead to the same
---   Searching n w x c v ws ms ws′ ms′
---                         row x is being searched, v is seen, and the other rows are as they were
---   searching-none, searching-more, left-less
---                         before the first; a record more; one less is left
---   row-done, row-back    the row is closed: all that is found is seen, or a whole row leads back
---   half-none             none of the rows is closed yet
+-- Laws of the closure: the rows closed one after another, and rows of 1,024 bits.
+--   unmasked-none, half-none
+--                         a row with no mask has no pair; none of the rows is closed yet
 --   onward-same, onward-next, onward-beyond, onward-row
 --                         on from marks to marks: not at all, one after another, by a mark beyond the records, by a row closed
 --   Settled n a c u       record u is closed, or has no pair
---   settled-empty, settled-next
---                         a row with no mask; the first x + 1 records
+--   settled-gap, settled-next
+--                         records that are not filled; the first x + 1 records
 --   half-all              all records: the relation is the closure
 --   clean-flat            clean words of 1,024 bits a row are the rows of the relation
 --   masked-set, masked-clean
 --                         rows of a set, with masks of the words that are not empty
---   rows-other            two rows have no word in common
 -- Assumes nothing.
-use mathlib.Core.Path.{_≡_, refl, sym, ap, ap₂, subst, _∙_, fun-ext}
+use mathlib.Core.Path.{_≡_, sym, ap, subst, _∙_, fun-ext}
 use mathlib.Core.Logic.{_⊎_, inl, inr, ⊎-elim}
 use mathlib.Core.List.{List}
-use Prim.Native.Nat.{ℕ, zero, suc, _+_, _-_, _*_, _/_, _%_, _^_, _≤_, _<_, min, max}
+use Prim.Native.Nat.{ℕ, _+_, _-_, _*_, _/_, _%_, _≤_, _<_}
 use native.Mathlib.Decide.{decLt, ℕ-discrete}
 use native.Mathlib.Omega.{arith}
-use lib.Bits.{bitAnd, bitOr}
-use lib.Dec.{eqb, ltb}
-use lib.ListN.{length, getD, set}
-use borrow.Author.Tests.{lt-ltb, le-ltb}
-use Rattle.book.specs.Basics.{pick}
-use Rattle.k2.specs.Bits.{digit, bitAt, onesBelow}
-use Rattle.k2.specs.DigitLaws.{digit-lt, digit-none, digit-or, digit-and, digit-not}
-use Rattle.k2.specs.BitLaws.{bit-lt, bit-in, bit-set, bit-set-off}
+use lib.ListN.{getD}
+use Rattle.book.specs.Causes.{maxRecords}
+use Rattle.k2.specs.Bits.{digit, bitAt}
+use Rattle.k2.specs.DigitLaws.{digit-lt}
+use Rattle.k2.specs.BitLaws.{bit-in}
 use Rattle.k2.specs.PairSets.{Cells, IsSet, OneOrMore, once, more, closure}
-use Rattle.k2.specs.PairSetLaws.{leads-on, closure-leads, leads-closure, closure-set}
+use Rattle.k2.specs.PairSetLaws.{closure-leads, closure-set}
 use Rattle.bits.specs.BitSets.{Gap, put}
 use Rattle.bits.specs.BitSetLaws.{put-at, put-off}
 use Rattle.rows.specs.Rows.{flat}
 use Rattle.rows.specs.RowLaws.{flat-at}
 use Rattle.rows.specs.Steps.{Masked}
 use Rattle.grid.specs.Grid.{rowOf, firstRows, first}
-use Rattle.grid.specs.GridLaws.{row-bit, within-in, within-row, within-column, within-same, within-set}
-use Rattle.grid.specs.Steps.{held, Clean, Merged, Fresh, Half, RowClosed, Onward}
-use Rattle.grid.proofs.RowLaws.{row-same, row-empty, row-in, row-held, held-none}
-use Rattle.grid.proofs.RelationLaws.{rows-apart}
-
-pub first-bit : (w : ℕ) (ws ms : List ℕ) (x y : ℕ) → firstRows w ws ms x y < 2
-unfolding firstRows
-first-bit w ws ms x y = row-bit ws (x * w) (getD ms x 0) y
-
-pub empty-row : (n w : ℕ) (ws ms : List ℕ) (m : ℕ) → getD ms m 0 ≡ 0 → (y : ℕ) → firstRows w ws ms m y ≡ 0
-unfolding firstRows
-empty-row n w ws ms m e y = row-empty ws (m * w) (getD ms m 0) y (ap (λ (v : ℕ). digit v (y / 64)) e ∙ digit-none (y / 64))
-
--- ---- a row merged into another, as rows of the relation
-pub merged-here : (w t : ℕ) (src : ℕ → ℕ) (ws ms ws′ ms′ : List ℕ) → Merged w t (t * w) src ws ms ws′ ms′ → (y : ℕ) → y < w * 64
-    → firstRows w ws′ ms′ t y ≡ max (firstRows w ws ms t y) (src y)
-unfolding firstRows
-merged-here w t src ws ms ws′ ms′ M y l = M .row y l
-
-pub merged-else : (w t : ℕ) (src : ℕ → ℕ) (ws ms ws′ ms′ : List ℕ) → Merged w t (t * w) src ws ms ws′ ms′ → (u y : ℕ) → y < w * 64 → (u ≡ t → ⊥)
-    → firstRows w ws′ ms′ u y ≡ firstRows w ws ms u y
-unfolding firstRows
-merged-else w t src ws ms ws′ ms′ M u y l n = go (decLt u t)
-  where
-    go : Dec (u < t) → rowOf ws′ (u * w) (getD ms′ u 0) y ≡ rowOf ws (u * w) (getD ms u 0) y
-    go (yes h) = row-same ws′ ws (u * w) _ _ y (M .masks u n) (M .below (u * w + y / 64) (omega (arith, rows-apart u t w h)))
-    go (no h) = row-same ws′ ws (u * w) _ _ y (M .masks u n) (M .above (u * w + y / 64) (omega (arith, rows-apart t u w (omega (arith, n, h)))))
-
-pub merged-self : (w x : ℕ) (ws ms : List ℕ) → Merged w x (x * w) (firstRows w ws ms x) ws ms ws ms
-merged-self w x ws ms = record {
-  row = λ y h. unfold firstRows in (omega arith);
-  below = λ k h. refl;
-  above = λ k h. refl;
-  masks = λ k n. refl;
-  clean = λ y h k. k;
-}
-
--- ---- clean words
--- what another row held it holds
-held-else : (w x : ℕ) (src : ℕ → ℕ) (ws ms ws′ ms′ : List ℕ) → Merged w x (x * w) src ws ms ws′ ms′ → (u y : ℕ) → y < w * 64 → (u ≡ x → ⊥)
-    → held ws′ (u * w) y ≡ held ws (u * w) y
-unfolding held
-held-else w x src ws ms ws′ ms′ M u y l d = ap (λ (v : ℕ). digit v (y % 64)) (go (decLt u x))
-  where
-    go : Dec (u < x) → getD ws′ (u * w + y / 64) 0 ≡ getD ws (u * w + y / 64) 0
-    go (yes h) = M .below (u * w + y / 64) (omega (arith, rows-apart u x w h))
-    go (no h) = M .above (u * w + y / 64) (omega (arith, rows-apart x u w (omega (arith, d, h))))
-
--- a row merged into row x that has no column from n on
-module _ (n w x : ℕ) (src : ℕ → ℕ) (ws ms ws′ ms′ : List ℕ) (xl : x < n) (M : Merged w x (x * w) src ws ms ws′ ms′)
-    (z : (y : ℕ) → n ≤ y → y < w * 64 → src y ≡ 0) (C : Clean n w ws ms) where
-  clean-here : (y : ℕ) → y < w * 64 → held ws′ (x * w) y ≡ first n w ws′ ms′ x y
-  unfolding firstRows
-  clean-here y l = go (decLt y n)
-    where
-      go : Dec (y < n) → held ws′ (x * w) y ≡ first n w ws′ ms′ x y
-      go (yes h) = M .clean y l (C x y l ∙ within-in n (firstRows w ws ms) x y xl h) ∙ sym (within-in n (firstRows w ws′ ms′) x y xl h)
-      go (no h) =
-          let e : held ws (x * w) y ≡ 0 = C x y l ∙ within-column n (firstRows w ws ms) x y (omega arith) in
-          let r : rowOf ws (x * w) (getD ms x 0) y ≡ 0 = held-none ws (x * w) (getD ms x 0) y e in
-          M .clean y l (e ∙ sym r) ∙ M .row y l ∙ ap₂ max r (z y (omega arith) l) ∙ sym (within-column n (firstRows w ws′ ms′) x y (omega arith))
-
-  clean-else : (u y : ℕ) → y < w * 64 → (u ≡ x → ⊥) → held ws′ (u * w) y ≡ first n w ws′ ms′ u y
-  clean-else u y l d = held-else w x src ws ms ws′ ms′ M u y l d ∙ C u y l ∙ go (decLt u n) (decLt y n)
-    where
-      go : Dec (u < n) → Dec (y < n) → first n w ws ms u y ≡ first n w ws′ ms′ u y
-      go (yes i) (yes h) =
-          within-in n (firstRows w ws ms) u y i h ∙ sym (merged-else w x src ws ms ws′ ms′ M u y l d) ∙ sym (within-in n (firstRows w ws′ ms′) u y i h)
-      go (no i) h = within-row n (firstRows w ws ms) u y (omega arith) ∙ sym (within-row n (firstRows w ws′ ms′) u y (omega arith))
-      go (yes i) (no h) = within-column n (firstRows w ws ms) u y (omega arith) ∙ sym (within-column n (firstRows w ws′ ms′) u y (omega arith))
-
-  pub clean-merged : Clean n w ws′ ms′
-  clean-merged u y l = go (ℕ-discrete u x)
-    where
-      go : Dec (u ≡ x) → held ws′ (u * w) y ≡ first n w ws′ ms′ u y
-      go (yes d) = rw d (clean-here y l)
-      go (no d) = clean-else u y l d
-
--- clean words hold no column from n on
-pub clean-past : (n w : ℕ) (ws ms : List ℕ) → Clean n w ws ms → (z y : ℕ) → n ≤ y → y < w * 64 → firstRows w ws ms z y ≡ 0
-unfolding firstRows
-clean-past n w ws ms C z y h l = held-none ws (z * w) (getD ms z 0) y (C z y l ∙ within-column n (firstRows w ws ms) z y h)
-
--- ---- a column that is not seen
--- r is one, if it is below n; else the columns below p are seen
-pub record LookedTo (n p : ℕ) (f g : ℕ → ℕ) (r : ℕ) : Type 0 where
-  pub found : r < n → (f r ≡ 1) × (g r ≡ 0)
-  pub all : n ≤ r → (y : ℕ) → y < n → y < p → f y ≡ 1 → g y ≡ 1
-
--- the bits of a word that a set lacks
-pub lacks : (ws vs : List ℕ) (b c : ℕ) → getD vs c 0 < 2 ^ 64 → (j : ℕ) → j < 64
-    → digit (bitAnd (getD ws (b + c) 0) ((2 ^ 64 - 1) - getD vs c 0)) j ≡ min (digit (getD ws (b + c) 0) j) (1 - bitAt vs (c * 64 + j))
-lacks ws vs b c f j h =
-    digit-and (getD ws (b + c) 0) ((2 ^ 64 - 1) - getD vs c 0) j
-    ∙ ap (min (digit (getD ws (b + c) 0) j)) (digit-not 64 j (getD vs c 0) f h ∙ ap (λ (k : ℕ). 1 - k) (sym (bit-in vs c j h)))
-
-module _ (n b m : ℕ) (ws vs : List ℕ) where
-  abbrev Looked : (p r : ℕ) → Type 0
-  Looked p r = LookedTo n p (rowOf ws b m) (bitAt vs) r
-
-  -- words that are not in the mask
-  pub looked-gap : (c k r : ℕ) → Gap (digit m) c k → Looked (c * 64) r → Looked (k * 64) r
-  looked-gap c k r g L = record { found = L .found; all = λ o y l h e. go o y l h e (decLt y (c * 64)) }
-    where
-      go : n ≤ r → (y : ℕ) → y < n → y < k * 64 → rowOf ws b m y ≡ 1 → Dec (y < c * 64) → bitAt vs y ≡ 1
-      go o y l h e (yes d) = L .all o y l d e
-      go o y l h e (no d) = absurd (omega (arith, e, row-empty ws b m y (g (y / 64) (omega arith) (omega arith))))
-
-  module _ (c word left : ℕ) (d : digit m c ≡ 1) (lack : (j : ℕ) → j < 64 → digit word j ≡ min (digit (getD ws (b + c) 0) j) (1 - bitAt vs (c * 64 + j)))
-      (cut : (j : ℕ) → j < 64 → digit left j ≡ pick (ltb (c * 64 + j) n) (digit word j) 0) where
-    -- what is left of word c, in terms of the row and the set
-    left-is : (y : ℕ) → y / 64 ≡ c → y < n → digit left (y % 64) ≡ min (rowOf ws b m y) (1 - bitAt vs y)
-    left-is y q l =
-        let e : c * 64 + y % 64 ≡ y = omega arith in
-        let p : pick (ltb (c * 64 + y % 64) n) (digit word (y % 64)) 0 ≡ digit word (y % 64) = rw (e, lt-ltb y n l) refl in
-        cut (y % 64) (omega arith) ∙ p ∙ lack (y % 64) (omega arith)
-        ∙ ap₂ (λ (p q : ℕ). min p (1 - q)) (sym (row-in ws b m c y q d)) (ap (bitAt vs) e)
-
-    pub fresh-found : (k : ℕ) → k < 64 → digit left k ≡ 1 → Fresh n (rowOf ws b m) (bitAt vs) (c * 64 + k)
-    fresh-found k h e = go (decLt (c * 64 + k) n)
-      where
-        go : Dec (c * 64 + k < n) → Fresh n (rowOf ws b m) (bitAt vs) (c * 64 + k)
-        go (yes l) =
-            let q : (c * 64 + k) / 64 ≡ c = omega arith in
-            let r : (c * 64 + k) % 64 ≡ k = omega arith in
-            let z : digit left k ≡ min (rowOf ws b m (c * 64 + k)) (1 - bitAt vs (c * 64 + k)) = rw r at (left-is (c * 64 + k) q l) in
-            record {
-              found = λ i. (omega (arith, z, row-bit ws b m (c * 64 + k)), omega (arith, z));
-              all = λ i. absurd (omega arith);
-            }
-        go (no l) =
-            let z : pick (ltb (c * 64 + k) n) (digit word k) 0 ≡ 0 = rw (le-ltb (c * 64 + k) n (omega arith)) refl in
-            absurd (omega (arith, e, cut k h ∙ z))
-
-    pub looked-word : (f r : ℕ) → ((r ≡ f) × ((f < n) ⊎ (left ≡ 0))) ⊎ ((k : ℕ) × (k < 64) × (digit left k ≡ 1) × (r ≡ c * 64 + k))
-        → Looked (c * 64) f → Looked ((c + 1) * 64) r
-    looked-word f r (inl (e, inl l)) L = rw e (record { found = L .found; all = λ o. absurd (omega arith) })
-    looked-word f r (inl (q, inr z)) L = rw q (record { found = L .found; all = λ o y l h e. go o y l h e (decLt y (c * 64)) })
-      where
-        go : n ≤ f → (y : ℕ) → y < n → y < (c + 1) * 64 → rowOf ws b m y ≡ 1 → Dec (y < c * 64) → bitAt vs y ≡ 1
-        go o y l h e (yes k) = L .all o y l k e
-        go o y l h e (no k) =
-            let i : y / 64 ≡ c = omega arith in
-            let t : digit left (y % 64) ≡ 0 = ap (λ (v : ℕ). digit v (y % 64)) z ∙ digit-none (y % 64) in
-            omega (arith, left-is y i l, t, e, bit-lt vs y)
-    looked-word f r (inr (k, l, d, e)) L = rw e (let F = fresh-found k l d in record { found = F .found; all = λ o y l h e. F .all o y l e })
-
--- ---- a row added to a set, word by word
--- the columns before word c are added
-pub record Adding (w b m c : ℕ) (ws vs vs′ : List ℕ) : Type 0 where
-  pub done : (y : ℕ) → y < c * 64 → y < w * 64 → bitAt vs′ y ≡ max (bitAt vs y) (rowOf ws b m y)
-  pub ahead : (y : ℕ) → c * 64 ≤ y → bitAt vs′ y ≡ bitAt vs y
-
-pub adding-none : (w b m : ℕ) (ws vs : List ℕ) → Adding w b m 0 ws vs vs
-adding-none w b m ws vs = record { done = λ y h. absurd (omega arith); ahead = λ y h. refl }
-
-module _ (w b m : ℕ) (ws vs vs′ : List ℕ) where
-  pub adding-gap : (c k : ℕ) → c ≤ k → Gap (digit m) c k → Adding w b m c ws vs vs′ → Adding w b m k ws vs vs′
-  adding-gap c k low g A = record { done = λ y h l. go y h l (decLt y (c * 64)); ahead = λ y h. A .ahead y (omega arith) }
-    where
-      go : (y : ℕ) → y < k * 64 → y < w * 64 → Dec (y < c * 64) → bitAt vs′ y ≡ max (bitAt vs y) (rowOf ws b m y)
-      go y h l (yes d) = A .done y d l
-      go y h l (no d) =
-          A .ahead y (omega arith) ∙ sym (ap (max (bitAt vs y)) (row-empty ws b m y (g (y / 64) (omega arith) (omega arith))) ∙ omega arith)
-
-  pub adding-word : (c : ℕ) → c < length vs′ → digit m c ≡ 1 → Adding w b m c ws vs vs′
-      → Adding w b m (c + 1) ws vs (set vs′ c (bitOr (getD vs′ c 0) (getD ws (b + c) 0)))
-  adding-word c cl d A = record {
-    done = λ y h l. go y h l (ℕ-discrete (y / 64) c);
-    ahead = λ y h. bit-set-off vs′ c _ y (λ q. absurd (omega arith)) ∙ A .ahead y (omega arith);
-  }
-    where
-      v : ℕ
-      v = bitOr (getD vs′ c 0) (getD ws (b + c) 0)
-
-      go : (y : ℕ) → y < (c + 1) * 64 → y < w * 64 → Dec (y / 64 ≡ c) → bitAt (set vs′ c v) y ≡ max (bitAt vs y) (rowOf ws b m y)
-      go y h l (yes q) =
-          let e : c * 64 + y % 64 ≡ y = omega arith in
-          let old : digit (getD vs′ c 0) (y % 64) ≡ bitAt vs y = sym (bit-in vs′ c (y % 64) (omega arith)) ∙ ap (bitAt vs′) e ∙ A .ahead y (omega arith) in
-          bit-set vs′ c v y cl q ∙ digit-or (getD vs′ c 0) (getD ws (b + c) 0) (y % 64) ∙ ap₂ max old (sym (row-in ws b m c y q d))
-      go y h l (no q) = bit-set-off vs′ c v y q ∙ A .done y (omega (arith, q)) l
-
--- ---- a search
-pub record Search (n : ℕ) (a : Cells) (x : ℕ) (r v : ℕ → ℕ) : Type 0 where
-  pub sound : (y : ℕ) → y < n → r y ≡ 1 → OneOrMore a x y
-  pub start : (y : ℕ) → y < n → a x y ≡ 1 → r y ≡ 1
-  pub step : (z y : ℕ) → z < n → y < n → v z ≡ 1 → a z y ≡ 1 → r y ≡ 1
-
-either : (p q : ℕ) → p < 2 → q < 2 → max p q ≡ 1 → (p ≡ 1) ⊎ (q ≡ 1)
-either p q a b e = go (ℕ-discrete p 1)
-  where
-    go : Dec (p ≡ 1) → (p ≡ 1) ⊎ (q ≡ 1)
-    go (yes h) = inl h
-    go (no h) = inr (omega (arith, h))
-
-left-one : (p q : ℕ) → q < 2 → p ≡ 1 → max p q ≡ 1
-left-one p q b e = omega arith
-
-right-one : (p q : ℕ) → p < 2 → q ≡ 1 → max p q ≡ 1
-right-one p q b e = omega arith
-
--- all that is found is seen: the row is closed
-module _ (n : ℕ) (a : Cells) (A : IsSet n a) (x : ℕ) (r v : ℕ → ℕ) (rb : (y : ℕ) → r y < 2)
-    (S : Search n a x r v) (all : (y : ℕ) → y < n → r y ≡ 1 → v y ≡ 1) where
-  inside : (u y : ℕ) → a u y ≡ 1 → y < n
-  inside u y e = go (decLt y n)
-    where
-      go : Dec (y < n) → y < n
-      go (yes h) = h
-      go (no h) = absurd (omega (arith, A .column u y (omega arith)))
-
-  reached : {u y : ℕ} → OneOrMore a u y → ((s : ℕ) → s < n → a u s ≡ 1 → r s ≡ 1) → r y ≡ 1
-  reached {u} {y} (once e) h = h y (inside u y e) e
-  reached {u} {y} (more {z = z} e p) h =
-      let l = inside u z e in
-      reached p (λ s k f. S .step z s l k (all z l (h z l e)) f)
-
-  pub search-done : (y : ℕ) → y < n → r y ≡ closure n a x y
-  search-done y l = go (ℕ-discrete (r y) 1) (ℕ-discrete (closure n a x y) 1)
-    where
-      go : Dec (r y ≡ 1) → Dec (closure n a x y ≡ 1) → r y ≡ closure n a x y
-      go (yes e) d = e ∙ sym (leads-closure n a A (S .sound y l e))
-      go (no e) (yes d) = absurd (e (reached (closure-leads n a A n x y d) (S .start)))
-      go (no e) (no d) = omega (arith, rb y, closure-set n n a A .bit x y, e, d)
-
--- record z, which is found, is seen
-module _ (n : ℕ) (a : Cells) (A : IsSet n a) (x z : ℕ) (zl : z < n) (r v r′ v′ q : ℕ → ℕ)
-    (rb : (y : ℕ) → r y < 2) (vb : (y : ℕ) → v y < 2) (qb : (y : ℕ) → q y < 2)
-    (S : Search n a x r v) (found : r z ≡ 1) (row : (y : ℕ) → y < n → r′ y ≡ max (r y) (q y)) where
-  -- its row is that of a, or is that of x
-  pub search-plain : ((y : ℕ) → y < n → v′ y ≡ 1 → (v y ≡ 1) ⊎ (y ≡ z)) → ((y : ℕ) → y < n → a z y ≡ 1 → max (r y) (q y) ≡ 1)
-      → ((y : ℕ) → y < n → q y ≡ 1 → OneOrMore a x y) → Search n a x r′ v′
-  search-plain seen all sound = record {
-    sound = λ y l e. ⊎-elim (S .sound y l) (sound y l) (either (r y) (q y) (rb y) (qb y) (sym (row y l) ∙ e));
-    start = λ y l e. row y l ∙ left-one (r y) (q y) (qb y) (S .start y l e);
-    step =
-        λ u y ul l e f. row y l ∙ ⊎-elim (λ h. left-one (r y) (q y) (qb y) (S .step u y ul l h f))
-        (λ h. all y l (ap (λ (k : ℕ). a k y) (sym h) ∙ f)) (seen u ul e);
-  }
-
-  -- its row is closed
-  pub search-whole : ((y : ℕ) → y < n → q y ≡ closure n a z y) → ((y : ℕ) → y < n → v′ y ≡ 1 → ((v y ≡ 1) ⊎ (q y ≡ 1)) ⊎ (y ≡ z)) → Search n a x r′ v′
-  search-whole whole seen = record {
-    sound = λ y l e. ⊎-elim (S .sound y l) (λ h. leads-on (S .sound z zl found) (leads y l h)) (either (r y) (q y) (rb y) (qb y) (sym (row y l) ∙ e));
-    start = λ y l e. row y l ∙ left-one (r y) (q y) (qb y) (S .start y l e);
-    step = λ u y ul l e f.
-        row y l
-        ∙ ⊎-elim (λ g. ⊎-elim (λ h. left-one (r y) (q y) (qb y) (S .step u y ul l h f)) (λ h. new y l (leads-on (leads u ul h) (once f))) g)
-        (λ h. new y l (once (ap (λ (k : ℕ). a k y) (sym h) ∙ f))) (seen u ul e);
-  }
-    where
-      leads : (y : ℕ) → y < n → q y ≡ 1 → OneOrMore a z y
-      leads y l e = closure-leads n a A n z y (sym (whole y l) ∙ e)
-
-      new : (y : ℕ) → y < n → OneOrMore a z y → max (r y) (q y) ≡ 1
-      new y l p = right-one (r y) (q y) (rb y) (whole y l ∙ leads-closure n a A p)
-
--- records that lead to one another lead to the same
-pub back-done : (n : ℕ) (a : Cells) (A : IsSet n a) (x z : ℕ) → OneOrMore a x z → OneOrMore a z x → (r y : ℕ) → r < 2 → (r ≡ 1 → OneOrMore a x y)
-    → {q : ℕ} → q ≡ closure n a z y → max r q ≡ closure n a x y
-back-done n a A x z there home r y rb sound {q} e = go (ℕ-discrete (closure n a x y) 1)
-  where
-    cb : (u : ℕ) → closure n a u y < 2
-    cb u = closure-set n n a A .bit u y
-
-    go : Dec (closure n a x y ≡ 1) → max r q ≡ closure n a x y
-    go (yes h) = right-one r q rb (e ∙ leads-closure n a A (leads-on home (closure-leads n a A n x y h))) ∙ sym h
-    go (no h) =
-        let p : (r ≡ 1 → ⊥) = λ d. h (leads-closure n a A (sound d)) in
-        let k : (closure n a z y ≡ 1 → ⊥) = λ d. h (leads-closure n a A (leads-on there (closure-leads n a A n z y d))) in
-        let r0 : r ≡ 0 = omega (arith, p, rb) in
-        let z0 : closure n a z y ≡ 0 = omega (arith, k, cb z) in
-        let x0 : closure n a x y ≡ 0 = omega (arith, h, cb x) in
-        ap₂ max r0 (e ∙ z0) ∙ sym x0
-
--- fewer ones
-ones-most : (g f : ℕ → ℕ) (n : ℕ) → ((y : ℕ) → y < n → g y ≤ f y) → onesBelow g n ≤ onesBelow f n
-unfolding onesBelow
-ones-most g f zero h = omega arith
-ones-most g f (suc n) h = omega (arith, ones-most g f n (λ y l. h y (omega arith)), h n (omega arith))
-
-ones-less : (g f : ℕ → ℕ) (n z : ℕ) → z < n → ((y : ℕ) → y < n → g y ≤ f y) → g z < f z → onesBelow g n < onesBelow f n
-unfolding onesBelow
-ones-less g f zero z l h s = absurd (omega arith)
-ones-less g f (suc n) z l h s = go (decLt z n) (λ k. ones-less g f n z k (λ y d. h y (omega arith)) s)
-  where
-    go : Dec (z < n) → (z < n → onesBelow g n < onesBelow f n) → onesBelow g n + g n < onesBelow f n + f n
-    go (yes k) i = omega (arith, i k, h n (omega arith))
-    go (no k) i =
-        let e : z ≡ n = omega arith in
-        let q : g n < f n = rw (← e) s in
-        omega (arith, ones-most g f n (λ y d. h y (omega arith)), q)
-
--- ---- the rows, while row x is searched
-pub record Searching (n w x : ℕ) (c v : ℕ → ℕ) (ws ms ws′ ms′ : List ℕ) : Type 0 where
-  pub others : (u y : ℕ) → u < n → y < w * 64 → (u ≡ x → ⊥) → firstRows w ws′ ms′ u y ≡ firstRows w ws ms u y
-  pub search : (a : Cells) → IsSet n a → Half n a c (firstRows w ws ms) → c x ≡ 0 → Search n a x (firstRows w ws′ ms′ x) v
-  pub clean : Clean n w ws ms → Clean n w ws′ ms′
-
-pub searching-none : (n w x : ℕ) (c v : ℕ → ℕ) (ws ms : List ℕ) → x < n → ((u : ℕ) → v u ≡ 0) → Searching n w x c v ws ms ws ms
-searching-none n w x c v ws ms xl e = record {
-  others = λ u y ul l h. refl;
-  search = λ a A H z. record {
-    sound = λ y l h. once (sym (H .plain x y xl l z) ∙ h);
-    start = λ y l h. H .plain x y xl l z ∙ h;
-    step = λ u y ul l h f. absurd (omega (arith, h, e u));
-  };
-  clean = λ C. C;
-}
-
-module _ (n w x z : ℕ) (c v : ℕ → ℕ) (ws ms ws′ ms′ ws″ ms″ : List ℕ) (nl : n ≤ w * 64) (xl : x < n) (zl : z < n)
-    (N : Merged w x (x * w) (firstRows w ws′ ms′ z) ws′ ms′ ws″ ms″) (found : firstRows w ws′ ms′ x z ≡ 1) (T : Searching n w x c v ws ms ws′ ms′) where
-  row-is : (y : ℕ) → y < n → firstRows w ws″ ms″ x y ≡ max (firstRows w ws′ ms′ x y) (firstRows w ws′ ms′ z y)
-  row-is y l = merged-here w x _ ws′ ms′ ws″ ms″ N y (omega arith)
-
-  led-others : (u y : ℕ) → u < n → y < w * 64 → (u ≡ x → ⊥) → firstRows w ws″ ms″ u y ≡ firstRows w ws ms u y
-  led-others u y ul l h = merged-else w x _ ws′ ms′ ws″ ms″ N u y l h ∙ T .others u y ul l h
-
-  led-clean : Clean n w ws ms → Clean n w ws″ ms″
-  led-clean C = clean-merged n w x _ ws′ ms′ ws″ ms″ xl N (clean-past n w ws′ ms′ (T .clean C) z) (T .clean C)
-
-  -- row z is whole, and leads to x
-  pub row-back : c z ≡ 1 → firstRows w ws″ ms″ z x ≡ 1 → RowClosed n w x c ws ms ws″ ms″
-  row-back whole back = record { others = λ u y ul l h. led-others u y ul (omega arith) h; row = λ a A H cx y l. go a A H cx y l; clean = led-clean }
-    where
-      go : (a : Cells) → IsSet n a → Half n a c (firstRows w ws ms) → c x ≡ 0 → (y : ℕ) → y < n → firstRows w ws″ ms″ x y ≡ closure n a x y
-      go a A H cx y l =
-          let S = T .search a A H cx in
-          let e : (z ≡ x → ⊥) = λ d. absurd (omega (arith, whole, ap c d ∙ cx)) in
-          let is : (y : ℕ) → y < n → firstRows w ws′ ms′ z y ≡ closure n a z y = λ y l. T .others z y zl (omega arith) e ∙ H .whole z y zl l whole in
-          let there : OneOrMore a x z = S .sound z zl found in
-          let home : OneOrMore a z x = closure-leads n a A n z x
-          (sym (is x xl) ∙ sym (merged-else w x _ ws′ ms′ ws″ ms″ N z x (omega arith) e) ∙ back) in
-          row-is y l ∙ back-done n a A x z there home (firstRows w ws′ ms′ x y) y (first-bit w ws′ ms′ x y) (S .sound y l) (is y l)
-
-  -- a record more is seen
-  module _ (v′ : ℕ → ℕ) (seen : (y : ℕ) → y < w * 64 → v′ y ≡ max (put z 1 v y) (pick (eqb (c z) 1) (firstRows w ws″ ms″ z y) 0)) where
-    seen-plain : c z ≡ 0 → (y : ℕ) → y < n → v′ y ≡ 1 → (v y ≡ 1) ⊎ (y ≡ z)
-    seen-plain e y l h = go (ℕ-discrete y z)
-      where
-        go : Dec (y ≡ z) → (v y ≡ 1) ⊎ (y ≡ z)
-        go (yes d) = inr d
-        go (no d) =
-            let pk : pick (eqb (c z) 1) (firstRows w ws″ ms″ z y) 0 ≡ 0 = rw e refl in
-            inl (omega (arith, sym (seen y (omega arith)) ∙ h, put-off z 1 v y d, pk))
-
-    seen-whole : c z ≡ 1 → (z ≡ x → ⊥) → ((y : ℕ) → v y < 2) → (y : ℕ) → y < n → v′ y ≡ 1 → ((v y ≡ 1) ⊎ (firstRows w ws′ ms′ z y ≡ 1)) ⊎ (y ≡ z)
-    seen-whole e f vb y l h = go (ℕ-discrete y z)
-      where
-        go : Dec (y ≡ z) → ((v y ≡ 1) ⊎ (firstRows w ws′ ms′ z y ≡ 1)) ⊎ (y ≡ z)
-        go (yes d) = inr d
-        go (no d) =
-            let pk : pick (eqb (c z) 1) (firstRows w ws″ ms″ z y) 0 ≡ firstRows w ws′ ms′ z y =
-            rw e (merged-else w x _ ws′ ms′ ws″ ms″ N z y (omega arith) f) in
-            inl (either (v y) (firstRows w ws′ ms′ z y) (vb y) (first-bit w ws′ ms′ z y)
-            (omega (arith, sym (seen y (omega arith)) ∙ h, put-off z 1 v y d, pk)))
-
-    pub searching-more : ((y : ℕ) → c y < 2) → ((y : ℕ) → v y < 2) → Searching n w x c v′ ws ms ws″ ms″
-    searching-more cb vb = record {
-      others = led-others;
-      search = λ a A H cx. go a A H cx (T .search a A H cx) (ℕ-discrete z x) (ℕ-discrete (c z) 1);
-      clean = led-clean;
-    }
-      where
-        go : (a : Cells) → IsSet n a → Half n a c (firstRows w ws ms) → c x ≡ 0 → Search n a x (firstRows w ws′ ms′ x) v → Dec (z ≡ x)
-            → Dec (c z ≡ 1) → Search n a x (firstRows w ws″ ms″ x) v′
-        go a A H cx S (yes e) d =
-            search-plain n a A x z zl _ _ _ _ (firstRows w ws′ ms′ z) (first-bit w ws′ ms′ x) vb (first-bit w ws′ ms′ z) S found
-            row-is (seen-plain (ap c e ∙ cx))
-            (λ y l h. left-one (firstRows w ws′ ms′ x y) (firstRows w ws′ ms′ z y) (first-bit w ws′ ms′ z y) (S .start y l (ap (λ (k : ℕ). a k y) (sym e) ∙ h)))
-            (λ y l h. S .sound y l (ap (λ (k : ℕ). firstRows w ws′ ms′ k y) (sym e) ∙ h))
-        go a A H cx S (no e) (yes d) =
-            search-whole n a A x z zl _ _ _ _ (firstRows w ws′ ms′ z) (first-bit w ws′ ms′ x) vb (first-bit w ws′ ms′ z) S found
-            row-is (λ y l. T .others z y zl (omega arith) e ∙ H .whole z y zl l d) (seen-whole d e vb)
-        go a A H cx S (no e) (no d) =
-            let cz : c z ≡ 0 = omega (arith, cb z, d) in
-            let is : (y : ℕ) → y < n → firstRows w ws′ ms′ z y ≡ a z y = λ y l. T .others z y zl (omega arith) e ∙ H .plain z y zl l cz in
-            search-plain n a A x z zl _ _ _ _ (firstRows w ws′ ms′ z) (first-bit w ws′ ms′ x) vb (first-bit w ws′ ms′ z) S found
-            row-is (seen-plain cz)
-            (λ y l h. right-one (firstRows w ws′ ms′ x y) (firstRows w ws′ ms′ z y) (first-bit w ws′ ms′ x y) (is y l ∙ h))
-            (λ y l h. leads-on (S .sound z zl found) (once (sym (is y l) ∙ h)))
-
-    -- one record less is left
-    pub left-less : v z ≡ 0 → onesBelow (λ y. 1 - v′ y) n < onesBelow (λ y. 1 - v y) n
-    left-less e =
-        ones-less (λ y. 1 - v′ y) (λ y. 1 - v y) n z zl
-        (λ y l. omega (arith, seen y (omega arith), put-most y))
-        (omega (arith, seen z (omega arith), put-at z 1 v))
-      where
-        put-most : (y : ℕ) → v y ≤ put z 1 v y
-        put-most y = go (ℕ-discrete y z)
-          where
-            go : Dec (y ≡ z) → v y ≤ put z 1 v y
-            go (yes d) = rw (d, e) (omega arith)
-            go (no d) = rw (put-off z 1 v y d) (omega arith)
-
--- all that is found is seen
-pub row-done : (n w x z : ℕ) (c v : ℕ → ℕ) (ws ms ws′ ms′ : List ℕ) → n ≤ w * 64 → n ≤ z → Fresh n (firstRows w ws′ ms′ x) v z
-    → Searching n w x c v ws ms ws′ ms′ → RowClosed n w x c ws ms ws′ ms′
-row-done n w x z c v ws ms ws′ ms′ nl h F T = record {
-  others = λ u y ul l d. T .others u y ul (omega arith) d;
-  row = λ a A H cx y l. search-done n a A x (firstRows w ws′ ms′ x) v (first-bit w ws′ ms′ x) (T .search a A H cx) (F .all h) y l;
-  clean = T .clean;
-}
+use Rattle.grid.specs.GridLaws.{within-in, within-same, within-set}
+use Rattle.grid.specs.Steps.{held, Clean, emptyMarks, Filled, Started, Half, RowClosed, Onward}
+use Rattle.grid.proofs.RowLaws.{row-empty, row-held}
+use Rattle.grid.proofs.SearchLaws.{empty-row, put-keeps}
 
 -- ---- the rows closed one after another
-pub half-none : (n w : ℕ) (ws ms : List ℕ) (c : ℕ → ℕ) → ((u : ℕ) → c u ≡ 0) → Half n (first n w ws ms) c (firstRows w ws ms)
-half-none n w ws ms c z = record {
-  whole = λ u y ul l h. absurd (omega (arith, z u));
+-- a mark put below those of empty rows
+put-below : (v : ℕ) (c : ℕ → ℕ) (p u : ℕ) → p < emptyMarks → put p v c (emptyMarks + u) ≡ c (emptyMarks + u)
+put-below v c p u l = put-off p v c (emptyMarks + u) (λ q. absurd (omega arith))
+
+-- a row with no mask has no pair
+pub unmasked-none : (n w : ℕ) (ws ms : List ℕ) (u : ℕ) → u < n → getD ms u 0 ≡ 0 → (y : ℕ) → y < n → first n w ws ms u y ≡ 0
+unmasked-none n w ws ms u ul e y l = within-in n (firstRows w ws ms) u y ul l ∙ empty-row n w ws ms u e y
+
+pub half-none : (n w : ℕ) (ws ms : List ℕ) (f c : ℕ → ℕ) → n ≤ maxRecords
+    → Filled n ms f → Started maxRecords f c → Half n (first n w ws ms) c (firstRows w ws ms)
+half-none n w ws ms f c nl F S = record {
+  whole = λ u y ul l h. absurd (omega (arith, h, S .closed u (omega arith)));
   plain = λ u y ul l h. sym (within-in n (firstRows w ws ms) u y ul l);
+  empty = λ u y ul l h. unmasked-none n w ws ms u ul (F .all u ul (omega (arith, h, S .empty u (omega arith)))) y l;
+  past = λ u h l. S .empty u l ∙ ap (λ (k : ℕ). 1 - k) (F .past u h);
 }
 
-half-more : (n : ℕ) (a : Cells) (c : ℕ → ℕ) (x : ℕ) (f g : Cells) → ((u y : ℕ) → u < n → y < n → (u ≡ x → ⊥) → g u y ≡ f u y)
+half-more : (n : ℕ) (a : Cells) (c : ℕ → ℕ) (x : ℕ) (f g : Cells) → x < emptyMarks → ((u y : ℕ) → u < n → y < n → (u ≡ x → ⊥) → g u y ≡ f u y)
     → ((y : ℕ) → y < n → g x y ≡ closure n a x y) → Half n a c f → Half n a (put x 1 c) g
-half-more n a c x f g others row H = record {
+half-more n a c x f g xl others row H = record {
   whole = λ u y ul l h. whole u y ul l h (ℕ-discrete u x);
   plain = λ u y ul l h. plain u y ul l h (ℕ-discrete u x);
+  empty = λ u y ul l h. H .empty u y ul l (sym (put-below 1 c x u xl) ∙ h);
+  past = λ u h l. put-below 1 c x u xl ∙ H .past u h l;
 }
   where
     whole : (u y : ℕ) → u < n → y < n → put x 1 c u ≡ 1 → Dec (u ≡ x) → g u y ≡ closure n a u y
@@ -483,21 +71,19 @@ half-more n a c x f g others row H = record {
     plain u y ul l h (no e) = others u y ul l e ∙ H .plain u y ul l (sym (put-off x 1 c u e) ∙ h)
 
 -- a mark beyond the records
-half-beyond : (n : ℕ) (a : Cells) (c d : ℕ → ℕ) (p : ℕ) (f : Cells) → n ≤ p → d ≡ put p 1 c → Half n a c f → Half n a d f
-half-beyond n a c d p f l e H = record {
+half-beyond : (n : ℕ) (a : Cells) (c d : ℕ → ℕ) (p : ℕ) (f : Cells) → n ≤ p → p < emptyMarks → d ≡ put p 1 c → Half n a c f → Half n a d f
+half-beyond n a c d p f l pl e H = record {
   whole = λ u y ul yl h. H .whole u y ul yl (sym (same u ul) ∙ h);
   plain = λ u y ul yl h. H .plain u y ul yl (sym (same u ul) ∙ h);
+  empty = λ u y ul yl h. H .empty u y ul yl (sym (kept u) ∙ h);
+  past = λ u h ul. kept u ∙ H .past u h ul;
 }
   where
     same : (u : ℕ) → u < n → d u ≡ c u
     same u ul = ap (λ (g : ℕ → ℕ). g u) e ∙ put-off p 1 c u (λ q. absurd (omega arith))
 
-put-keeps : (c : ℕ → ℕ) (x u : ℕ) → c u ≡ 1 → put x 1 c u ≡ 1
-put-keeps c x u e = go (ℕ-discrete u x)
-  where
-    go : Dec (u ≡ x) → put x 1 c u ≡ 1
-    go (yes d) = ap (put x 1 c) d ∙ put-at x 1 c
-    go (no d) = put-off x 1 c u d ∙ e
+    kept : (u : ℕ) → d (emptyMarks + u) ≡ c (emptyMarks + u)
+    kept u = ap (λ (g : ℕ → ℕ). g (emptyMarks + u)) e ∙ put-below 1 c p u pl
 
 -- ---- on from marks to marks
 pub onward-same : (n w : ℕ) (cs ws ms : List ℕ) → Onward n w cs ws ms cs ws ms
@@ -508,19 +94,20 @@ pub onward-next : {n w : ℕ} {cs ws ms cs′ ws′ ms′ cs″ ws″ ms″ : Li
 onward-next O P = record { half = λ a A H. P .half a A (O .half a A H); marks = λ u h. P .marks u (O .marks u h); clean = λ C. P .clean (O .clean C) }
 
 -- a mark beyond the records
-pub onward-beyond : (n w p : ℕ) (cs cs′ ws ms : List ℕ) → n ≤ p → bitAt cs′ ≡ put p 1 (bitAt cs) → Onward n w cs ws ms cs′ ws ms
-onward-beyond n w p cs cs′ ws ms l e = record {
-  half = λ a A H. half-beyond n a (bitAt cs) (bitAt cs′) p (firstRows w ws ms) l e H;
+pub onward-beyond : (n w p : ℕ) (cs cs′ ws ms : List ℕ) → n ≤ p → p < emptyMarks → bitAt cs′ ≡ put p 1 (bitAt cs) → Onward n w cs ws ms cs′ ws ms
+onward-beyond n w p cs cs′ ws ms l pl e = record {
+  half = λ a A H. half-beyond n a (bitAt cs) (bitAt cs′) p (firstRows w ws ms) l pl e H;
   marks = λ u h. ap (λ (f : ℕ → ℕ). f u) e ∙ put-keeps (bitAt cs) p u h;
   clean = λ C. C;
 }
 
 -- row x is closed and marked
-pub onward-row : (n w x : ℕ) (cs cs′ ws ms ws′ ms′ : List ℕ) → bitAt cs x ≡ 0 → bitAt cs′ ≡ put x 1 (bitAt cs) → RowClosed n w x (bitAt cs) ws ms ws′ ms′
+pub onward-row : (n w x : ℕ) (cs cs′ ws ms ws′ ms′ : List ℕ) → x < emptyMarks
+    → bitAt cs x ≡ 0 → bitAt cs′ ≡ put x 1 (bitAt cs) → RowClosed n w x (bitAt cs) ws ms ws′ ms′
     → Onward n w cs ws ms cs′ ws′ ms′
-onward-row n w x cs cs′ ws ms ws′ ms′ z e R = record {
+onward-row n w x cs cs′ ws ms ws′ ms′ xl z e R = record {
   half = λ a A H. subst (λ (s : ℕ → ℕ). Half n a s (firstRows w ws′ ms′)) (sym e)
-      (half-more n a (bitAt cs) x (firstRows w ws ms) (firstRows w ws′ ms′) (R .others) (R .row a A H z) H);
+      (half-more n a (bitAt cs) x (firstRows w ws ms) (firstRows w ws′ ms′) xl (R .others) (R .row a A H z) H);
   marks = λ u h. ap (λ (f : ℕ → ℕ). f u) e ∙ put-keeps (bitAt cs) x u h;
   clean = R .clean;
 }
@@ -546,24 +133,22 @@ empty-closed n a A u z y l = go (ℕ-discrete (closure n a u y) 1)
 abbrev pub Settled : ℕ → Cells → (ℕ → ℕ) → ℕ → Type 0
 Settled n a c u = (c u ≡ 1) ⊎ ((y : ℕ) → y < n → a u y ≡ 0)
 
-pub settled-empty : (n w : ℕ) (a : Cells) (cs ws ms : List ℕ) (u : ℕ) → u < n → Half n a (bitAt cs) (firstRows w ws ms) → getD ms u 0 ≡ 0
-    → Settled n a (bitAt cs) u
-settled-empty n w a cs ws ms u ul H e = go (ℕ-discrete (bitAt cs u) 1)
+-- records that are not filled
+pub settled-gap : (n w : ℕ) (c f : ℕ → ℕ) (ws ms : List ℕ) (lo p : ℕ) → p ≤ n → Filled n ms f → Gap f lo p
+    → ((u : ℕ) → u < lo → Settled n (first n w ws ms) c u) → (u : ℕ) → u < p → Settled n (first n w ws ms) c u
+settled-gap n w c f ws ms lo p pl F g all u l = go (decLt u lo)
   where
-    go : Dec (bitAt cs u ≡ 1) → Settled n a (bitAt cs) u
-    go (yes h) = inl h
-    go (no h) = inr (λ y l. sym (H .plain u y ul l (omega (arith, h, bit-lt cs u))) ∙ empty-row n w ws ms u e y)
+    go : Dec (u < lo) → Settled n (first n w ws ms) c u
+    go (yes h) = all u h
+    go (no h) = inr (λ y yl. unmasked-none n w ws ms u (omega arith) (F .all u (omega arith) (g u (omega arith) l)) y yl)
 
 pub settled-next : (n : ℕ) (a : Cells) (c d : ℕ → ℕ) (x : ℕ) → ((u : ℕ) → u < x → Settled n a c u) → ((u : ℕ) → c u ≡ 1 → d u ≡ 1)
-    → Settled n a c x ⊎ (d x ≡ 1) → (u : ℕ) → u < x + 1 → Settled n a d u
+    → d x ≡ 1 → (u : ℕ) → u < x + 1 → Settled n a d u
 settled-next n a c d x all keeps new u l = go (ℕ-discrete u x)
   where
-    kept : (u : ℕ) → Settled n a c u → Settled n a d u
-    kept u s = ⊎-elim (λ h. inl (keeps u h)) (λ z. inr z) s
-
     go : Dec (u ≡ x) → Settled n a d u
-    go (yes e) = subst (Settled n a d) (sym e) (⊎-elim (kept x) (λ h. inl h) new)
-    go (no e) = kept u (all u (omega (arith, e)))
+    go (yes e) = inl (ap d e ∙ new)
+    go (no e) = ⊎-elim (λ h. inl (keeps u h)) (λ z. inr z) (all u (omega (arith, e)))
 
 pub half-all : (n w : ℕ) (a : Cells) (c : ℕ → ℕ) (ws ms : List ℕ) → IsSet n a → ((u : ℕ) → c u < 2) → Half n a c (firstRows w ws ms)
     → ((u : ℕ) → u < n → Settled n a c u) → first n w ws ms ≡ closure n a
@@ -613,11 +198,3 @@ module _ (n : ℕ) (a : Cells) (rs ms : List ℕ) (nl : n ≤ 1024) (A : IsSet n
 
   pub masked-clean : Clean n 16 rs ms
   masked-clean x y l = cell x y (omega arith) ∙ ap (λ (b : Cells). b x y) (sym masked-set)
-
--- two rows have no word in common
-pub rows-other : (x z w : ℕ) → (x ≡ z → ⊥) → (x * w + w ≤ z * w) ⊎ (z * w + w ≤ x * w)
-rows-other x z w n = go (decLt x z)
-  where
-    go : Dec (x < z) → (x * w + w ≤ z * w) ⊎ (z * w + w ≤ x * w)
-    go (yes h) = inl (rows-apart x z w h)
-    go (no h) = inr (rows-apart z x w (omega (arith, n, h)))

@@ -2,7 +2,9 @@ pub mod ScanLaws
 pub mod RowLaws
 pub mod RelationLaws
 pub mod ColumnLaws
+pub mod SearchLaws
 pub mod ClosureLaws
+pub mod MarkLaws
 pub mod ProductLaws
 pub mod PairLaws
 pub mod ListingLaws

@@ -13,8 +13,8 @@
 --   letter m v      the pair of the link word v, if its label is in the set m
 --   crossed-one, letter-in, letter-out
 --                   one link word: in both senses, its pair if its label is in the set, else none
---   put-none, crossed-next, crossed-start, crossed-all
---                   word by word: the first i + 1 words, none, all
+--   put-none, crossed-next, crossed-start
+--                   word by word: the first i + 1 words, none
 --   zero-more       masks made empty, one after another
 -- Assumes nothing.
 use mathlib.Core.Path.{_≡_, refl, sym, ap, ap₂, _∙_, fun-ext}
@@ -27,14 +27,15 @@ use native.Mathlib.Decide.{decLt, ℕ-discrete}
 use native.Mathlib.Omega.{arith}
 use lib.Dec.{eqb, ltb}
 use lib.ListN.{length, getD, set, take}
-use lib.Seq.{getD-set-same, getD-set-other, take-suc, take-length}
+use lib.Seq.{getD-set-same, getD-set-other, take-suc}
 use borrow.Author.Tests.{eq-eqb, ne-eqb, lt-ltb}
 use Rattle.book.specs.Basics.{pick, bit, has}
 use Rattle.k2.specs.Bits.{digit}
 use Rattle.k2.specs.DigitLaws.{digit-pow, digit-none}
 use Rattle.k2.specs.PairSets.{Cells, setOf, union, transpose, diagonal}
 use Rattle.k2.specs.PairSetLaws.{set-past}
-use Rattle.rows.specs.Rows.{noPairs, linkPair, labelled, crossedWords}
+use Rattle.rows.specs.Rows.{noPairs, labelled, crossedWords}
+use Rattle.links.specs.Links.{linkPair}
 use Rattle.rows.specs.RowLaws.{union-join, set-none}
 use Rattle.grid.specs.Grid.{firstRows, within}
 use Rattle.grid.specs.GridLaws.{within-in, within-row, within-column, within-same}
@@ -281,9 +282,6 @@ crossed-next ws i f a l =
 pub crossed-start : (f a x y : ℕ) → crossedWords [] f a x y ≡ 0
 unfolding crossedWords labelled union transpose setOf has
 crossed-start f a x y = omega arith
-
-pub crossed-all : (ws : List ℕ) (i f a : ℕ) → i ≡ length ws → crossedWords (take i ws) f a ≡ crossedWords ws f a
-crossed-all ws i f a e = ap (λ (l : List ℕ). crossedWords l f a) (ap (λ (k : ℕ). take k ws) e ∙ take-length ws)
 
 -- ---- masks made empty, one after another
 pub zero-more : (ms : List ℕ) (x : ℕ) → x < length ms → ((k : ℕ) → k < x → getD ms k 0 ≡ 0) → (k : ℕ) → k < x + 1 → getD (set ms x 0) k 0 ≡ 0

@@ -23,7 +23,7 @@ use lib.Seq.{getD-set-same, getD-set-other}
 use Rattle.k2.specs.Bits.{digit}
 use Rattle.k2.specs.DigitLaws.{digit-none}
 use Rattle.k2.specs.PairSets.{Cells, most, serves, product}
-use Rattle.k2.specs.PairSetLaws.{most-none}
+use Rattle.k2.specs.PairSetLaws.{most-same, most-none}
 use Rattle.bits.specs.BitSets.{Gap}
 use Rattle.grid.specs.Grid.{rowOf, firstRows, secondRows, within}
 use Rattle.grid.specs.Steps.{Lowest, linked, Merged, Replaced}
@@ -31,7 +31,7 @@ use Rattle.grid.proofs.RowLaws.{row-same, row-empty, merged-none, merge
 use Rattle.grid.specs.GridLaws.{row-bit}
 use Rattle.grid.specs.GridLaws.{within-in, within-row, within-column}
 use Rattle.grid.proofs.RelationLaws.{rows-apart, Through, through-row, second-row, through-more, through-keep}
-use Rattle.grid.proofs.ClosureLaws.{empty-row}
+use Rattle.grid.proofs.SearchLaws.{empty-row}
 
 -- ---- the largest of numbers
 most-far : (f : ℕ → ℕ) (p d : ℕ) → Gap f p (p + d) → most (p + d) f ≡ most p f
@@ -46,11 +46,6 @@ most-gap f p q l g = let e : q ≡ p + (q - p) = omega arith in ap (λ (k : ℕ)
 
 pub most-next : (f : ℕ → ℕ) (z q : ℕ) → z < q → Gap f (z + 1) q → most q f ≡ max (most z f) (f z)
 most-next f z q l g = most-gap f (z + 1) q (omega arith) g ∙ ap (λ (k : ℕ). most k f) (add-one z) ∙ unfold most in refl
-
-most-same : (n : ℕ) (f g : ℕ → ℕ) → ((z : ℕ) → z < n → f z ≡ g z) → most n f ≡ most n g
-unfolding most
-most-same zero f g e = refl
-most-same (suc n) f g e = ap₂ max (most-same n f g (λ z l. e z (omega arith))) (e n (omega arith))
 
 pub second-bit : (n w : ℕ) (ws ms : List ℕ) (x y : ℕ) → secondRows n w ws ms x y < 2
 unfolding secondRows

@@ -5,13 +5,14 @@ use crate::row::put;
 ghost use mathlib.Core.Path.{_≡_};
 ghost use Prim.Native.Nat.{ℕ, _+_, _*_, _≤_, _<_};
 ghost use lib.ListN.{length, getD};
+ghost use Rattle.book.specs.Causes.{maxRecords};
 ghost use Rattle.k2.specs.PairSets.{union, transpose, product, most};
-ghost use Rattle.grid.specs.Grid.{firstRows, secondRows, first, second};
+ghost use Rattle.grid.specs.Grid.{Space, firstRows, secondRows, first, second};
 ghost use Rattle.grid.specs.Steps.{linked, onlyRow, Merged, Replaced, Turned};
 
 // The second relation put into the first.
 pub fn unite(cells: &mut [u64], masks: &mut [u16], n: usize, w: usize)
-    requires { ⌜ (n ≤ 1024) × (w ≤ 16) × (n ≤ w * 64) × (n * w + n * w ≤ length (now cells)) × (n + n ≤ length (now masks)) ⌝ }
+    requires { ⌜ Space n w (n + n) (length (now cells)) (length (now masks)) ⌝ }
     ensures { λ _. ⌜ first n w (now (cells .exit)) (now (masks .exit))
         ≡ union (first n w (now (cells .entry)) (now (masks .entry))) (second n w (now (cells .entry)) (now (masks .entry))) ⌝ }
 {
@@ -28,7 +29,7 @@ pub fn unite(cells: &mut [u64], masks: &mut [u16], n: usize, w: usize)
 
 // Row x of the product of the first two relations, put into the row after them.
 fn product_row(cells: &mut [u64], masks: &mut [u16], n: usize, w: usize, x: usize)
-    requires { ⌜ (n ≤ 1024) × (w ≤ 16) × (n ≤ w * 64) × (n * w + n * w + w ≤ length (now cells)) × (n + n < length (now masks)) × (x < n) ⌝ }
+    requires { ⌜ Space n w (n + n + 1) (length (now cells)) (length (now masks)) × (x < n) ⌝ }
     ensures { λ _. ⌜ Merged w (n + n) (n * w + n * w) (λ y. most n (linked n w (now (cells .entry)) (now (masks .entry)) x y))
         (now (cells .entry)) (now (masks .entry)) (now (cells .exit)) (now (masks .exit)) ⌝ }
 {
@@ -45,7 +46,7 @@ fn product_row(cells: &mut [u64], masks: &mut [u16], n: usize, w: usize, x: usiz
 
 // Row x of the first relation, at place b, replaced by that of the product.
 fn compose_row(cells: &mut [u64], masks: &mut [u16], n: usize, w: usize, x: usize, b: usize)
-    requires { ⌜ (n ≤ 1024) × (w ≤ 16) × (n ≤ w * 64) × (n * w + n * w + w ≤ length (now cells)) × (n + n < length (now masks)) × (x < n) × (b ≡ x * w) ⌝ }
+    requires { ⌜ Space n w (n + n + 1) (length (now cells)) (length (now masks)) × (x < n) × (b ≡ x * w) ⌝ }
     ensures { λ _. ⌜ Replaced n w x b (λ y. most n (linked n w (now (cells .entry)) (now (masks .entry)) x y))
         (now (cells .entry)) (now (masks .entry)) (now (cells .exit)) (now (masks .exit)) ⌝ }
 {
@@ -60,7 +61,7 @@ fn compose_row(cells: &mut [u64], masks: &mut [u16], n: usize, w: usize, x: usiz
 // The product of the first two relations, left in the first. A row of the product depends on that row of the first alone. The row and the mask
 // after the two relations are used.
 pub fn compose(cells: &mut [u64], masks: &mut [u16], n: usize, w: usize)
-    requires { ⌜ (n ≤ 1024) × (w ≤ 16) × (n ≤ w * 64) × (n * w + n * w + w ≤ length (now cells)) × (n + n < length (now masks)) ⌝ }
+    requires { ⌜ Space n w (n + n + 1) (length (now cells)) (length (now masks)) ⌝ }
     ensures { λ _. ⌜ first n w (now (cells .exit)) (now (masks .exit))
         ≡ product n (first n w (now (cells .entry)) (now (masks .entry))) (second n w (now (cells .entry)) (now (masks .entry))) ⌝ }
 {
@@ -78,7 +79,7 @@ pub fn compose(cells: &mut [u64], masks: &mut [u16], n: usize, w: usize)
 
 // The second relation made empty.
 fn start_second(masks: &mut [u16], n: usize)
-    requires { ⌜ (n ≤ 1024) × (n + n ≤ length (now masks)) ⌝ }
+    requires { ⌜ (n ≤ maxRecords) × (n + n ≤ length (now masks)) ⌝ }
     ensures { λ _. ⌜ ((k : ℕ) → k < n → getD (now (masks .exit)) k 0 ≡ getD (now (masks .entry)) k 0)
         × ((k : ℕ) → k < n → getD (now (masks .exit)) (n + k) 0 ≡ 0) ⌝ }
 {
@@ -91,7 +92,7 @@ fn start_second(masks: &mut [u16], n: usize)
 
 // The pairs of row x of the first relation put into the second, exchanged.
 fn turn_row(cells: &mut [u64], masks: &mut [u16], n: usize, w: usize, x: usize)
-    requires { ⌜ (n ≤ 1024) × (w ≤ 16) × (n ≤ w * 64) × (n * w + n * w ≤ length (now cells)) × (n + n ≤ length (now masks)) × (x < n) ⌝ }
+    requires { ⌜ Space n w (n + n) (length (now cells)) (length (now masks)) × (x < n) ⌝ }
     ensures { λ _. ⌜ Turned n w (onlyRow x n (firstRows w (now (cells .entry)) (now (masks .entry))))
         (now (cells .entry)) (now (masks .entry)) (now (cells .exit)) (now (masks .exit)) ⌝ }
 {
@@ -107,7 +108,7 @@ fn turn_row(cells: &mut [u64], masks: &mut [u16], n: usize, w: usize, x: usize)
 
 // Row x of the first relation, at place b, replaced by that of the second.
 fn take_row(cells: &mut [u64], masks: &mut [u16], n: usize, w: usize, x: usize, b: usize)
-    requires { ⌜ (n ≤ 1024) × (w ≤ 16) × (n ≤ w * 64) × (n * w + n * w ≤ length (now cells)) × (n + n ≤ length (now masks)) × (x < n) × (b ≡ x * w) ⌝ }
+    requires { ⌜ Space n w (n + n) (length (now cells)) (length (now masks)) × (x < n) × (b ≡ x * w) ⌝ }
     ensures { λ _. ⌜ Replaced n w x b (secondRows n w (now (cells .entry)) (now (masks .entry)) x)
         (now (cells .entry)) (now (masks .entry)) (now (cells .exit)) (now (masks .exit)) ⌝ }
 {
@@ -119,7 +120,7 @@ fn take_row(cells: &mut [u64], masks: &mut [u16], n: usize, w: usize, x: usize, 
 
 // The second relation taken over into the first.
 fn take_second(cells: &mut [u64], masks: &mut [u16], n: usize, w: usize)
-    requires { ⌜ (n ≤ 1024) × (w ≤ 16) × (n ≤ w * 64) × (n * w + n * w ≤ length (now cells)) × (n + n ≤ length (now masks)) ⌝ }
+    requires { ⌜ Space n w (n + n) (length (now cells)) (length (now masks)) ⌝ }
     ensures { λ _. ⌜ first n w (now (cells .exit)) (now (masks .exit)) ≡ second n w (now (cells .entry)) (now (masks .entry)) ⌝ }
 {
     let mut x = 0;
@@ -133,7 +134,7 @@ fn take_second(cells: &mut [u64], masks: &mut [u16], n: usize, w: usize)
 
 // Each pair of the first relation exchanged. The rows and the masks of the second are used.
 pub fn transpose(cells: &mut [u64], masks: &mut [u16], n: usize, w: usize)
-    requires { ⌜ (n ≤ 1024) × (w ≤ 16) × (n ≤ w * 64) × (n * w + n * w ≤ length (now cells)) × (n + n ≤ length (now masks)) ⌝ }
+    requires { ⌜ Space n w (n + n) (length (now cells)) (length (now masks)) ⌝ }
     ensures { λ _. ⌜ first n w (now (cells .exit)) (now (masks .exit)) ≡ transpose (first n w (now (cells .entry)) (now (masks .entry))) ⌝ }
 {
     start_second(masks, n);

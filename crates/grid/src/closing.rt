@@ -1,8 +1,10 @@
 // The closure of the first relation of a part, in place, record by record: each row is closed by a search over the rows as they are, where the row
-// of a record that is closed stands for all that it leads to.
+// of a record that is closed stands for all that it leads to. Records whose rows are empty count as seen from the first, so that a search passes over
+// them in whole words.
+// Marks, a bit each in three parts of 1,024: mark x says that row x is closed, mark SEEN + x that the search in depth has seen it, and mark 2 * SEEN + x
+// that it is empty.
 use crate::row::merge;
 use crate::words::above;
-use crate::words::cut;
 use crate::words::lowest;
 ghost use mathlib.Core.Path.{_≡_};
 ghost use mathlib.Core.Logic.{_⊎_};
@@ -11,13 +13,27 @@ ghost use Prim.Native.Nat.{ℕ, _+_, _*_, _/_, _≤_, _<_, max};
 ghost use lib.Dec.{eqb};
 ghost use lib.ListN.{length, getD};
 ghost use Rattle.book.specs.Basics.{pick};
+ghost use Rattle.book.specs.Causes.{maxRecords};
+ghost use Rattle.k2.specs.Sizes.{rowsWords};
 ghost use Rattle.k2.specs.Bits.{digit, bitAt};
 ghost use Rattle.k2.specs.PairSets.{Cells, IsSet, closure};
 ghost use Rattle.bits.specs.BitSets.{put};
 ghost use Rattle.rows.specs.Rows.{flat};
 ghost use Rattle.rows.specs.Steps.{Masked};
-ghost use Rattle.grid.specs.Grid.{rowOf, firstRows, first};
-ghost use Rattle.grid.specs.Steps.{Clean, Merged, Fresh, RowClosed, Onward};
+ghost use Rattle.grid.specs.Grid.{Space, rowOf, firstRows, first};
+ghost use Rattle.grid.specs.Steps.{mostSteps, stackPlaces, Clean, Merged, Fresh, emptyMarks, Filled, Started, RowClosed, Onward};
+
+// So many words a row has at most, and a part of the marks.
+const ROW: usize = 16;
+
+const SEEN: usize = 1024;
+
+const MARK_WORDS: usize = 3 * ROW;
+
+// Steps of the search in depth from one record at most: one down and one up for each record; and the places of its stack.
+const STEPS: usize = 2048;
+
+const STACK: usize = 2050;
 
 // A column of a closed record in word c of a row, if one is left there; else the column found, if it is below n; else one that is left in the word.
 fn found_or(found: usize, n: usize, left: u64, best: u64, c: usize) -> usize
@@ -36,8 +52,8 @@ fn found_or(found: usize, n: usize, left: u64, best: u64, c: usize) -> usize
     c * 64 + lowest(left)
 }
 
-// A column below n of row x, with the mask, that is not seen; n or more if there is none. That of a closed record, where there is one, all that it leads
-// to being then seen at once, and of those one near column x. Nothing but speed rests on that choice.
+// A column below n of row x, with the mask, that is not seen; n or more if there is none, where all from n on count as seen. That of a closed record, where
+// there is one, all that it leads to being then seen at once, and of those one near column x. Nothing but speed rests on that choice.
 fn fresh(
     cells: &[u64],
     mask: u16,
@@ -47,15 +63,15 @@ fn fresh(
     seen: &[u64],
     closed: &[u64],
 ) -> usize
-    requires { ⌜ (n ≤ 1024) × (w ≤ 16) × (n ≤ w * 64) × (n * w ≤ length (now cells)) × (x < n) × (16 ≤ length (now seen)) × (16 ≤ length (now closed)) ⌝ }
-    ensures { λ r. ⌜ Fresh n (rowOf (now (cells .entry)) (x * w) mask) (bitAt (now (seen .entry))) r ⌝ }
+    requires { ⌜ Space n w n (length (now cells)) n × (x < n) × (16 ≤ length (now seen)) × (16 ≤ length (now closed)) ⌝ }
+    ensures { λ r. ⌜ Fresh n w (rowOf (now (cells .entry)) (x * w) mask) (bitAt (now (seen .entry))) r ⌝ }
 {
     let words = mask as u64;
     let b = x * w;
     let mut found = n;
     let mut c = lowest(words);
     while c < w {
-        let left = cut(cells[b + c] & !seen[c], c, n);
+        let left = cells[b + c] & !seen[c];
         let best = left & closed[c];
         found = found_or(found, n, left, best, c);
         if best != 0 {
@@ -85,7 +101,7 @@ fn add_row(cells: &[u64], mask: u16, w: usize, b: usize, set: &mut [u64])
 
 // Record z is seen, and, if its row, with the mask, is whole, all that it leads to.
 fn mark(cells: &[u64], mask: u16, w: usize, z: usize, whole: u64, seen: &mut [u64])
-    requires { ⌜ (w ≤ 16) × (z < 1024) × (z * w + w ≤ length (now cells)) × (16 ≤ length (now seen)) ⌝ }
+    requires { ⌜ (w ≤ 16) × (z < maxRecords) × (z * w + w ≤ length (now cells)) × (16 ≤ length (now seen)) ⌝ }
     ensures { λ _. ⌜ ((y : ℕ) → y < w * 64 → bitAt (now (seen .exit)) y
         ≡ max (put z 1 (bitAt (now (seen .entry))) y) (pick (eqb whole 1) (rowOf (now (cells .entry)) (z * w) mask y) 0)) ⌝ }
 {
@@ -98,7 +114,7 @@ fn mark(cells: &[u64], mask: u16, w: usize, z: usize, whole: u64, seen: &mut [u6
 
 // Is the row at place b, with the mask, whole, and does it lead to x?
 fn leads_back(cells: &[u64], mask: u16, b: usize, x: usize, whole: u64) -> bool
-    requires { ⌜ (x < 1024) × (b + x / 64 < length (now cells)) ⌝ }
+    requires { ⌜ (x < maxRecords) × (b + x / 64 < length (now cells)) ⌝ }
     ensures { λ r. ⌜ (r ≡ true → (whole ≡ 1) × (rowOf (now (cells .entry)) b mask x ≡ 1)) ⌝ }
 {
     if whole != 1 {
@@ -113,7 +129,7 @@ fn leads_back(cells: &[u64], mask: u16, b: usize, x: usize, whole: u64) -> bool
 
 // Row z put into row x.
 fn lead_on(cells: &mut [u64], masks: &mut [u16], n: usize, w: usize, x: usize, z: usize)
-    requires { ⌜ (n ≤ 1024) × (w ≤ 16) × (n ≤ w * 64) × (n * w ≤ length (now cells)) × (n ≤ length (now masks)) × (x < n) × (z < n) ⌝ }
+    requires { ⌜ Space n w n (length (now cells)) (length (now masks)) × (x < n) × (z < n) ⌝ }
     ensures { λ _. ⌜ Merged w x (x * w) (firstRows w (now (cells .entry)) (now (masks .entry)) z)
         (now (cells .entry)) (now (masks .entry)) (now (cells .exit)) (now (masks .exit)) ⌝ }
 {
@@ -124,56 +140,63 @@ fn lead_on(cells: &mut [u64], masks: &mut [u16], n: usize, w: usize, x: usize, z
     merge(cells, masks, w, x, x * w, source, z * w);
 }
 
-// Row x closed, if the rows of the records that are closed are. A closed row that leads back to x, and that x leads to, is that of x.
-fn close_row(cells: &mut [u64], masks: &mut [u16], n: usize, w: usize, x: usize, closed: &[u64])
-    requires { ⌜ (n ≤ 1024) × (w ≤ 16) × (n ≤ w * 64) × (n * w ≤ length (now cells)) × (n ≤ length (now masks)) × (x < n) × (16 ≤ length (now closed)) ⌝ }
-    ensures { λ _. ⌜ RowClosed n w x (bitAt (now (closed .entry))) (now (cells .entry)) (now (masks .entry)) (now (cells .exit)) (now (masks .exit)) ⌝ }
+// The records that are marked as empty.
+fn empty_records(marks: &[u64]) -> [u64; ROW]
+    requires { ⌜ length (now marks) ≡ 48 ⌝ }
+    ensures { λ r. ⌜ ((u : ℕ) → u < maxRecords → bitAt r u ≡ bitAt (now (marks .entry)) (emptyMarks + u)) ⌝ }
 {
-    let mut seen: [u64; 16] = [0; 16];
-    let mut z = fresh(cells, masks[x], n, w, x, &seen, closed);
+    let mut records: [u64; ROW] = [0; ROW];
+    let mut c = 0;
+    while c < ROW {
+        records[c] = marks[2 * ROW + c];
+        c += 1;
+    }
+    records
+}
+
+// Row x closed, if the rows of the records that are closed are. A closed row that leads back to x, and that x leads to, is that of x.
+fn close_row(cells: &mut [u64], masks: &mut [u16], n: usize, w: usize, x: usize, marks: &[u64])
+    requires { ⌜ Space n w n (length (now cells)) (length (now masks)) × (x < n) × (length (now marks) ≡ 48) ⌝ }
+    ensures { λ _. ⌜ RowClosed n w x (bitAt (now (marks .entry))) (now (cells .entry)) (now (masks .entry)) (now (cells .exit)) (now (masks .exit)) ⌝ }
+{
+    let mut seen = empty_records(marks);
+    let mut z = fresh(cells, masks[x], n, w, x, &seen, marks);
     while z < n {
-        let whole = bits::bit(closed, z);
+        let whole = bits::bit(marks, z);
         lead_on(cells, masks, n, w, x, z);
         if leads_back(cells, masks[z], z * w, x, whole) {
             return;
         }
         mark(cells, masks[z], w, z, whole, &mut seen);
-        z = fresh(cells, masks[x], n, w, x, &seen, closed);
+        z = fresh(cells, masks[x], n, w, x, &seen, marks);
     }
 }
 
 // Row x closed, unless it is.
-fn close_once(
-    cells: &mut [u64],
-    masks: &mut [u16],
-    n: usize,
-    w: usize,
-    x: usize,
-    closed: &mut [u64],
-)
-    requires { ⌜ (n ≤ 1024) × (w ≤ 16) × (n ≤ w * 64) × (n * w ≤ length (now cells)) × (n ≤ length (now masks)) × (16 ≤ length (now closed)) ⌝ }
-    ensures { λ _. ⌜ Onward n w (now (closed .entry)) (now (cells .entry)) (now (masks .entry)) (now (closed .exit)) (now (cells .exit)) (now (masks .exit))
-        × (x < n → bitAt (now (closed .exit)) x ≡ 1) ⌝ }
+fn close_once(cells: &mut [u64], masks: &mut [u16], n: usize, w: usize, x: usize, marks: &mut [u64])
+    requires { ⌜ Space n w n (length (now cells)) (length (now masks)) × (length (now marks) ≡ 48) ⌝ }
+    ensures { λ _. ⌜ Onward n w (now (marks .entry)) (now (cells .entry)) (now (masks .entry)) (now (marks .exit)) (now (cells .exit)) (now (masks .exit))
+        × (x < n → bitAt (now (marks .exit)) x ≡ 1) ⌝ }
 {
     if n <= x {
         return;
     }
-    if bits::bit(closed, x) == 1 {
+    if bits::bit(marks, x) == 1 {
         return;
     }
-    close_row(cells, masks, n, w, x, closed);
-    bits::set_bit(closed, x);
+    close_row(cells, masks, n, w, x, marks);
+    bits::set_bit(marks, x);
 }
 
-// A column below n of row x, at place b with the mask, whose record is not marked as seen; n or more if there is none. Seen is bit 1024 + record.
+// A column of row x, at place b with the mask, whose record is not marked as seen; n or more if there is none.
 fn unseen(cells: &[u64], mask: u16, n: usize, w: usize, b: usize, marks: &[u64]) -> usize
-    requires { ⌜ (n ≤ 1024) × (w ≤ 16) × (b + w ≤ length (now cells)) × (length (now marks) ≡ 32) ⌝ }
-    ensures { λ r. ⌜ r < 2048 ⌝ }
+    requires { ⌜ (n ≤ maxRecords) × (w ≤ 16) × (b + w ≤ length (now cells)) × (length (now marks) ≡ 48) ⌝ }
+    ensures { λ r. ⌜ r < mostSteps ⌝ }
 {
     let words = mask as u64;
     let mut c = lowest(words);
     while c < w {
-        let left = cut(cells[b + c] & !marks[16 + c], c, n);
+        let left = cells[b + c] & !marks[ROW + c];
         if left != 0 {
             return c * 64 + lowest(left);
         }
@@ -191,7 +214,7 @@ fn deeper(
     x: usize,
     marks: &mut [u64],
 ) -> usize
-    requires { ⌜ (n ≤ 1024) × (w ≤ 16) × (n ≤ w * 64) × (n * w ≤ length (now cells)) × (n ≤ length (now masks)) × (length (now marks) ≡ 32) ⌝ }
+    requires { ⌜ Space n w n (length (now cells)) (length (now masks)) × (length (now marks) ≡ 48) ⌝ }
     ensures { λ r. ⌜ (r ≤ n) × Onward n w (now (marks .entry)) (now (cells .entry))
         (now (masks .entry)) (now (marks .exit)) (now (cells .exit)) (now (masks .exit)) ⌝ }
 {
@@ -200,7 +223,7 @@ fn deeper(
     }
     let z = unseen(cells, masks[x], n, w, x * w, marks);
     if z < n {
-        bits::set_bit(marks, 1024 + z);
+        bits::set_bit(marks, SEEN + z);
         return z;
     }
     close_once(cells, masks, n, w, x, marks);
@@ -209,7 +232,7 @@ fn deeper(
 
 // The depth after a step that found z, or, at n, found none.
 fn depth_after(z: usize, n: usize, depth: usize) -> usize
-    requires { ⌜ depth < 2050 ⌝ }
+    requires { ⌜ depth < stackPlaces ⌝ }
     ensures { λ r. ⌜ r ≤ depth + 1 ⌝ }
 {
     if z < n {
@@ -231,8 +254,8 @@ fn advance(
     stack: &mut [u16],
     depth: usize,
 ) -> usize
-    requires { ⌜ (n ≤ 1024) × (w ≤ 16) × (n ≤ w * 64) × (n * w ≤ length (now cells)) × (n ≤ length (now masks)) × (length (now marks) ≡ 32)
-        × (length (now stack) ≡ 2050) × (0 < depth) × (depth < 2050) ⌝ }
+    requires { ⌜ Space n w n (length (now cells)) (length (now masks)) × (length (now marks) ≡ 48)
+        × (length (now stack) ≡ stackPlaces) × (0 < depth) × (depth < stackPlaces) ⌝ }
     ensures { λ r. ⌜ (r ≤ depth + 1) × Onward n w (now (marks .entry)) (now (cells .entry))
         (now (masks .entry)) (now (marks .exit)) (now (cells .exit)) (now (masks .exit)) ⌝ }
 {
@@ -251,13 +274,13 @@ fn search_on(
     marks: &mut [u64],
     stack: &mut [u16],
 )
-    requires { ⌜ (n ≤ 1024) × (w ≤ 16) × (n ≤ w * 64) × (n * w ≤ length (now cells)) × (n ≤ length (now masks)) × (length (now marks) ≡ 32)
-        × (length (now stack) ≡ 2050) ⌝ }
+    requires { ⌜ Space n w n (length (now cells)) (length (now masks)) × (length (now marks) ≡ 48)
+        × (length (now stack) ≡ stackPlaces) ⌝ }
     ensures { λ _. ⌜ Onward n w (now (marks .entry)) (now (cells .entry)) (now (masks .entry)) (now (marks .exit)) (now (cells .exit)) (now (masks .exit)) ⌝ }
 {
     let mut depth = 1;
     let mut step: usize = 0;
-    while step < 2048 {
+    while step < STEPS {
         if depth == 0 {
             return;
         }
@@ -277,19 +300,19 @@ fn close_from(
     marks: &mut [u64],
     stack: &mut [u16],
 )
-    requires { ⌜ (n ≤ 1024) × (w ≤ 16) × (n ≤ w * 64) × (n * w ≤ length (now cells)) × (n ≤ length (now masks)) × (length (now marks) ≡ 32)
-        × (length (now stack) ≡ 2050) × (x < n) ⌝ }
+    requires { ⌜ Space n w n (length (now cells)) (length (now masks)) × (length (now marks) ≡ 48)
+        × (length (now stack) ≡ stackPlaces) × (x < n) ⌝ }
     ensures { λ _. ⌜ Onward n w (now (marks .entry)) (now (cells .entry)) (now (masks .entry)) (now (marks .exit)) (now (cells .exit)) (now (masks .exit)) ⌝ }
 {
-    if bits::bit(marks, 1024 + x) == 1 {
+    if bits::bit(marks, SEEN + x) == 1 {
         return;
     }
-    bits::set_bit(marks, 1024 + x);
+    bits::set_bit(marks, SEEN + x);
     stack[0] = x as u16;
     search_on(cells, masks, n, w, marks, stack);
 }
 
-// Row x closed, unless it is empty, and before it the rows that it leads to.
+// Row x closed, and before it the rows that it leads to.
 fn close_record(
     cells: &mut [u64],
     masks: &mut [u16],
@@ -299,36 +322,66 @@ fn close_record(
     marks: &mut [u64],
     stack: &mut [u16],
 )
-    requires { ⌜ (n ≤ 1024) × (w ≤ 16) × (n ≤ w * 64) × (n * w ≤ length (now cells)) × (n ≤ length (now masks)) × (length (now marks) ≡ 32)
-        × (length (now stack) ≡ 2050) × (x < n) ⌝ }
+    requires { ⌜ Space n w n (length (now cells)) (length (now masks)) × (length (now marks) ≡ 48)
+        × (length (now stack) ≡ stackPlaces) × (x < n) ⌝ }
     ensures { λ _. ⌜ Onward n w (now (marks .entry)) (now (cells .entry)) (now (masks .entry)) (now (marks .exit)) (now (cells .exit)) (now (masks .exit))
-        × ((getD (now (masks .entry)) x 0 ≡ 0) ⊎ (bitAt (now (marks .exit)) x ≡ 1)) ⌝ }
+        × (bitAt (now (marks .exit)) x ≡ 1) ⌝ }
 {
-    if masks[x] == 0 {
-        return;
-    }
     close_from(cells, masks, n, w, x, marks, stack);
     close_once(cells, masks, n, w, x, marks);
 }
 
+// The records below n whose rows are not empty.
+fn occupied(masks: &[u16], n: usize) -> [u64; ROW]
+    requires { ⌜ (n ≤ maxRecords) × (n ≤ length (now masks)) ⌝ }
+    ensures { λ r. ⌜ Filled n (now (masks .entry)) (bitAt r) ⌝ }
+{
+    let mut records: [u64; ROW] = [0; ROW];
+    let mut x = 0;
+    while x < n {
+        if masks[x] != 0 {
+            bits::set_bit(&mut records, x);
+        }
+        x += 1;
+    }
+    records
+}
+
+// The marks to begin with: no row is closed, and of the records that are not filled each counts as seen, and as empty.
+fn start_marks(filled: &[u64]) -> [u64; MARK_WORDS]
+    requires { ⌜ length (now filled) ≡ 16 ⌝ }
+    ensures { λ r. ⌜ Started maxRecords (bitAt (now (filled .entry))) (bitAt r) ⌝ }
+{
+    let mut marks: [u64; MARK_WORDS] = [0; MARK_WORDS];
+    let mut c = 0;
+    while c < ROW {
+        let rest = !filled[c];
+        marks[ROW + c] = rest;
+        marks[2 * ROW + c] = rest;
+        c += 1;
+    }
+    marks
+}
+
 // One or more steps of the first relation. Clean words stay so.
 fn close_all(cells: &mut [u64], masks: &mut [u16], n: usize, w: usize)
-    requires { ⌜ (n ≤ 1024) × (w ≤ 16) × (n ≤ w * 64) × (n * w ≤ length (now cells)) × (n ≤ length (now masks)) ⌝ }
+    requires { ⌜ Space n w n (length (now cells)) (length (now masks)) ⌝ }
     ensures { λ _. ⌜ (first n w (now (cells .exit)) (now (masks .exit)) ≡ closure n (first n w (now (cells .entry)) (now (masks .entry))))
         × (Clean n w (now (cells .entry)) (now (masks .entry)) → Clean n w (now (cells .exit)) (now (masks .exit))) ⌝ }
 {
-    let mut marks: [u64; 32] = [0; 32];
-    let mut stack: [u16; 2050] = [0; 2050];
-    let mut x = 0;
+    let filled = occupied(masks, n);
+    let mut marks = start_marks(&filled);
+    let mut stack: [u16; STACK] = [0; STACK];
+    let mut x = bits::next(&filled, 0, n);
     while x < n {
         close_record(cells, masks, n, w, x, &mut marks, &mut stack);
-        x += 1;
+        x = bits::next(&filled, x + 1, n);
     }
 }
 
 // One or more steps of the first relation.
 pub fn close(cells: &mut [u64], masks: &mut [u16], n: usize, w: usize)
-    requires { ⌜ (n ≤ 1024) × (w ≤ 16) × (n ≤ w * 64) × (n * w ≤ length (now cells)) × (n ≤ length (now masks)) ⌝ }
+    requires { ⌜ Space n w n (length (now cells)) (length (now masks)) ⌝ }
     ensures { λ _. ⌜ first n w (now (cells .exit)) (now (masks .exit)) ≡ closure n (first n w (now (cells .entry)) (now (masks .entry))) ⌝ }
 {
     close_all(cells, masks, n, w);
@@ -336,7 +389,7 @@ pub fn close(cells: &mut [u64], masks: &mut [u16], n: usize, w: usize)
 
 // The masks of rows of 1,024 bits.
 fn mask_rows(rows: &[u64], n: usize, masks: &mut [u16])
-    requires { ⌜ (n ≤ 1024) × (length (now rows) ≡ 16384) × (n ≤ length (now masks)) ⌝ }
+    requires { ⌜ (n ≤ maxRecords) × (length (now rows) ≡ rowsWords) × (n ≤ length (now masks)) ⌝ }
     ensures { λ _. ⌜ ((x : ℕ) → x < n → Masked (bitAt (now (rows .entry))) x (getD (now (masks .exit)) x 0)) ⌝ }
 {
     let mut row = 0;
@@ -348,10 +401,10 @@ fn mask_rows(rows: &[u64], n: usize, masks: &mut [u16])
 
 // One or more steps of rows of 1,024 bits, in place.
 pub fn close_rows(rows: &mut [u64], n: usize)
-    requires { ⌜ (n ≤ 1024) × (length (now rows) ≡ 16384) ⌝ }
+    requires { ⌜ (n ≤ maxRecords) × (length (now rows) ≡ rowsWords) ⌝ }
     ensures { λ _. ⌜ ((x : Cells) → IsSet n x → bitAt (now (rows .entry)) ≡ flat x → bitAt (now (rows .exit)) ≡ flat (closure n x)) ⌝ }
 {
-    let mut masks: [u16; 1024] = [0; 1024];
+    let mut masks: [u16; book::MAX_RECORDS] = [0; book::MAX_RECORDS];
     mask_rows(rows, n, &mut masks);
     close_all(rows, &mut masks, n, 16);
 }

@@ -22,3 +22,6 @@ pub use putting::put_diagonal;
 pub use putting::put_letters;
 pub use putting::start;
 pub use spreading::spread;
+
+// A pair word is from times this, and to.
+const PAIR_UNIT: usize = book::MAX_RECORDS;

@@ -1,4 +1,5 @@
 // The list of the first relation of a part, row by row, word by word.
+use crate::PAIR_UNIT;
 use crate::words::above;
 use crate::words::cut;
 use crate::words::lowest;
@@ -6,9 +7,10 @@ ghost use mathlib.Core.Path.{_≡_};
 ghost use mathlib.Core.List.{_++_};
 ghost use Prim.Native.Nat.{_+_, _*_, _≤_, _<_, _^_};
 ghost use lib.ListN.{length, take, drop};
+ghost use Rattle.book.specs.Causes.{maxRecords};
 ghost use Rattle.k2.specs.Bits.{digit};
 ghost use Rattle.k2.specs.PairSets.{listed};
-ghost use Rattle.grid.specs.Grid.{rowOf, first};
+ghost use Rattle.grid.specs.Grid.{Space, rowOf, first};
 ghost use Rattle.answers.specs.Listing.{Grown};
 ghost use Rattle.grid.specs.Steps.{cutRow, columns};
 
@@ -41,9 +43,9 @@ fn list_row(
     out: &mut [u32],
     t: usize,
 ) -> usize
-    requires { ⌜ (n ≤ 1024) × (w ≤ 16) × (n ≤ w * 64) × (n * w ≤ length (now cells)) × (x < n) × (t ≤ 1048576) ⌝ }
-    ensures { λ r. ⌜ (r ≤ t + 1024)
-        × Grown t r (columns (cutRow n (rowOf (now (cells .entry)) (x * w) mask)) (x * 1024) n) (now (out .entry)) (now (out .exit)) ⌝ }
+    requires { ⌜ Space n w n (length (now cells)) n × (x < n) × (t ≤ 1048576) ⌝ }
+    ensures { λ r. ⌜ (r ≤ t + maxRecords)
+        × Grown t r (columns (cutRow n (rowOf (now (cells .entry)) (x * w) mask)) (x * maxRecords) n) (now (out .entry)) (now (out .exit)) ⌝ }
 {
     let words = mask as u64;
     let b = x * w;
@@ -51,7 +53,7 @@ fn list_row(
     let mut c = lowest(words);
     while c < w {
         let word = cut(cells[b + c], c, n);
-        s = list_word(word, x * 1024 + c * 64, out, s);
+        s = list_word(word, x * PAIR_UNIT + c * 64, out, s);
         c = above(words, c);
     }
     s
@@ -59,7 +61,7 @@ fn list_row(
 
 // How many pairs the first relation has; their words, ascending, are written to the list as far as it takes them, and the words past them are left.
 pub fn list(cells: &[u64], masks: &[u16], n: usize, w: usize, out: &mut [u32]) -> usize
-    requires { ⌜ (n ≤ 1024) × (w ≤ 16) × (n ≤ w * 64) × (n * w ≤ length (now cells)) × (n ≤ length (now masks)) ⌝ }
+    requires { ⌜ Space n w n (length (now cells)) (length (now masks)) ⌝ }
     ensures { λ r. ⌜ (r ≡ length (listed n (first n w (now (cells .entry)) (now (masks .entry)))))
         × (now (out .exit) ≡ take (length (now (out .entry))) (listed n (first n w (now (cells .entry)) (now (masks .entry))))
         ++ drop (length (listed n (first n w (now (cells .entry)) (now (masks .entry))))) (now (out .entry))) ⌝ }

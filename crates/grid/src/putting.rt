@@ -1,13 +1,14 @@
 // Pairs put into the first relation of a part: those of links by their labels, and each record in use joined to itself.
+use crate::PAIR_UNIT;
 use crate::row::put;
 ghost use mathlib.Core.Path.{_≡_};
 ghost use mathlib.Core.List.{List, [], _∷_};
-ghost use Prim.Native.Nat.{ℕ, _*_, _≤_};
+ghost use Prim.Native.Nat.{ℕ, _≤_};
 ghost use lib.ListN.{length};
 ghost use Rattle.k2.specs.Bits.{bitAt};
 ghost use Rattle.k2.specs.PairSets.{union, diagonal};
 ghost use Rattle.rows.specs.Rows.{noPairs, crossedWords};
-ghost use Rattle.grid.specs.Grid.{within, first};
+ghost use Rattle.grid.specs.Grid.{Space, within, first};
 ghost use Rattle.grid.specs.Steps.{onePair};
 
 // The first relation made empty.
@@ -24,7 +25,7 @@ pub fn start(masks: &mut [u16], n: usize)
 
 // The pair (x, y) put into the first relation, if both records are below n.
 fn put_pair(cells: &mut [u64], masks: &mut [u16], n: usize, w: usize, x: usize, y: usize)
-    requires { ⌜ (n ≤ 1024) × (w ≤ 16) × (n ≤ w * 64) × (n * w ≤ length (now cells)) × (n ≤ length (now masks)) ⌝ }
+    requires { ⌜ Space n w n (length (now cells)) (length (now masks)) ⌝ }
     ensures { λ _. ⌜ first n w (now (cells .exit)) (now (masks .exit))
         ≡ union (first n w (now (cells .entry)) (now (masks .entry))) (within n (onePair x y)) ⌝ }
 {
@@ -39,7 +40,7 @@ fn put_pair(cells: &mut [u64], masks: &mut [u16], n: usize, w: usize, x: usize, 
 
 // Each record below n that is in use joined to itself.
 pub fn put_diagonal(used: &[u64], cells: &mut [u64], masks: &mut [u16], n: usize, w: usize)
-    requires { ⌜ (n ≤ 1024) × (w ≤ 16) × (n ≤ w * 64) × (n * w ≤ length (now cells)) × (n ≤ length (now masks)) ⌝ }
+    requires { ⌜ Space n w n (length (now cells)) (length (now masks)) ⌝ }
     ensures { λ _. ⌜ first n w (now (cells .exit)) (now (masks .exit))
         ≡ union (first n w (now (cells .entry)) (now (masks .entry))) (within n (diagonal (bitAt (now (used .entry))))) ⌝ }
 {
@@ -62,22 +63,22 @@ fn put_word(
     n: usize,
     w: usize,
 )
-    requires { ⌜ (n ≤ 1024) × (w ≤ 16) × (n ≤ w * 64) × (n * w ≤ length (now cells)) × (n ≤ length (now masks)) ⌝ }
+    requires { ⌜ Space n w n (length (now cells)) (length (now masks)) ⌝ }
     ensures { λ _. ⌜ first n w (now (cells .exit)) (now (masks .exit))
         ≡ union (first n w (now (cells .entry)) (now (masks .entry))) (within n (crossedWords (word ∷ []) forward against)) ⌝ }
 {
-    let label = word / 1048576;
-    let p = (word % 1048576) as usize;
+    let label = links::label_of(word);
+    let p = links::pair_of(word) as usize;
     if rows::has_label(forward, label) {
-        put_pair(cells, masks, n, w, p / 1024, p % 1024);
+        put_pair(cells, masks, n, w, p / PAIR_UNIT, p % PAIR_UNIT);
     }
     if rows::has_label(against, label) {
-        put_pair(cells, masks, n, w, p % 1024, p / 1024);
+        put_pair(cells, masks, n, w, p % PAIR_UNIT, p / PAIR_UNIT);
     }
 }
 
 // The pairs of link words put into the first relation, if both records are below n: of links whose label is in `forward` as they are, of those whose
-// label is in `against` exchanged. A link's word is label * 1048576 + from * 1024 + to.
+// label is in `against` exchanged.
 pub fn put_letters(
     words: &[u32],
     forward: u32,
@@ -87,7 +88,7 @@ pub fn put_letters(
     n: usize,
     w: usize,
 )
-    requires { ⌜ (n ≤ 1024) × (w ≤ 16) × (n ≤ w * 64) × (n * w ≤ length (now cells)) × (n ≤ length (now masks)) ⌝ }
+    requires { ⌜ Space n w n (length (now cells)) (length (now masks)) ⌝ }
     ensures { λ _. ⌜ first n w (now (cells .exit)) (now (masks .exit))
         ≡ union (first n w (now (cells .entry)) (now (masks .entry))) (within n (crossedWords (now (words .entry)) forward against)) ⌝ }
 {

@@ -6,17 +6,19 @@ use crate::words::lowest;
 ghost use mathlib.Core.Path.{_≡_};
 ghost use Prim.Native.Nat.{ℕ, _+_, _*_, _≤_, _<_};
 ghost use lib.ListN.{length};
+ghost use Rattle.book.specs.Causes.{maxRecords};
+ghost use Rattle.k2.specs.Sizes.{rowsWords};
 ghost use Rattle.k2.specs.Bits.{bitAt};
 ghost use Rattle.k2.specs.PairSets.{listed};
 ghost use Rattle.rows.specs.Rows.{flat};
-ghost use Rattle.grid.specs.Grid.{rowOf, first};
+ghost use Rattle.grid.specs.Grid.{Space, rowOf, first};
 ghost use Rattle.grid.specs.Steps.{cutRow, columns, Spread};
 
 // Row x with the mask, in the columns below n, written as row x of the rows, which is empty. How many pairs it has.
 fn spread_row(cells: &[u64], mask: u16, n: usize, w: usize, x: usize, rows: &mut [u64]) -> usize
-    requires { ⌜ (n ≤ 1024) × (w ≤ 16) × (n ≤ w * 64) × (n * w ≤ length (now cells)) × (x < n) × (length (now rows) ≡ 16384)
-        × ((y : ℕ) → y < 1024 → bitAt (now rows) (x * 1024 + y) ≡ 0) ⌝ }
-    ensures { λ r. ⌜ (r ≤ 1024) × (r ≡ length (columns (cutRow n (rowOf (now (cells .entry)) (x * w) mask)) (x * 1024) n))
+    requires { ⌜ Space n w n (length (now cells)) n × (x < n) × (length (now rows) ≡ rowsWords)
+        × ((y : ℕ) → y < maxRecords → bitAt (now rows) (x * maxRecords + y) ≡ 0) ⌝ }
+    ensures { λ r. ⌜ (r ≤ maxRecords) × (r ≡ length (columns (cutRow n (rowOf (now (cells .entry)) (x * w) mask)) (x * maxRecords) n))
         × Spread x (cutRow n (rowOf (now (cells .entry)) (x * w) mask)) 16 (now (rows .entry)) (now (rows .exit)) ⌝ }
 {
     let words = mask as u64;
@@ -35,7 +37,7 @@ fn spread_row(cells: &[u64], mask: u16, n: usize, w: usize, x: usize, rows: &mut
 
 // The first relation as 1,024 rows of 16 words. How many pairs it has.
 pub fn spread(cells: &[u64], masks: &[u16], n: usize, w: usize, rows: &mut [u64]) -> usize
-    requires { ⌜ (n ≤ 1024) × (w ≤ 16) × (n ≤ w * 64) × (n * w ≤ length (now cells)) × (n ≤ length (now masks)) × (length (now rows) ≡ 16384) ⌝ }
+    requires { ⌜ Space n w n (length (now cells)) (length (now masks)) × (length (now rows) ≡ rowsWords) ⌝ }
     ensures { λ r. ⌜ (r ≡ length (listed n (first n w (now (cells .entry)) (now (masks .entry)))))
         × (bitAt (now (rows .exit)) ≡ flat (first n w (now (cells .entry)) (now (masks .entry)))) ⌝ }
 {

@@ -20,10 +20,10 @@ use Rattle.register.specs.Words.{stateWords, Keeps, Foreign}
 use Rattle.register.specs.MarkLaws.{represents-marked}
 use Rattle.register.specs.WordLaws.{keeps-long, keeps-same}
 use Rattle.register.specs.declared.Register.{Register}
-use Rattle.engine.specs.Drafts.{draftCalls, madeWords, Drafts}
-use Rattle.engine.specs.declared.drafts.Applied.{Applied}
-use Rattle.engine.specs.declared.drafts.DraftAnswer.{DraftAnswer}
-use Rattle.engine.specs.declared.drafts.DraftAnswer.the-variants.{Made, Refused}
+use Rattle.register.specs.Drafts.{draftCalls, madeWords, Drafts}
+use Rattle.register.specs.declared.Applied.{Applied}
+use Rattle.register.specs.declared.DraftAnswer.{DraftAnswer}
+use Rattle.register.specs.declared.DraftAnswer.the-variants.{Made, Refused}
 use Rattle.host.specs.Host.{pastCounts, refusal}
 use Rattle.host.specs.Drafts.{placeUnit, toldDraft, Applies}
 

@@ -1,2 +1,3 @@
 pub mod CarryLaws
 pub mod DraftCarryLaws
+pub mod ReadLaws

@@ -26,7 +26,7 @@ use Rattle.answers.specs.declared.Counted.{Counted}
 use Rattle.paths.specs.Verdicts.{verdict}
 use Rattle.paths.specs.Questions.{Engine}
 use Rattle.register.specs.History.{Lent, Gives}
-use Rattle.register.specs.Links.{Linked}
+use Rattle.links.specs.Links.{Linked}
 use Rattle.register.specs.Questions.{totalAnswer}
 use Rattle.register.specs.Words.{stateWords}
 use Rattle.query.specs.Asking.{AsksFor}

@@ -19,7 +19,7 @@ use Rattle.paths.specs.Chains.{asked, Has}
 use Rattle.paths.specs.Expressions.{Expr}
 use Rattle.paths.specs.PairLaws.{history-inside, history-small}
 use Rattle.paths.specs.Questions.{Engine}
-use Rattle.register.specs.Links.{Linked}
+use Rattle.links.specs.Links.{Linked}
 use Rattle.register.specs.History.{Lent}
 use Rattle.chains.specs.Replies.{chainCounted}
 use Rattle.chains.specs.declared.ChainAnswer.{ChainAnswer}

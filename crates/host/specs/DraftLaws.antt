@@ -11,9 +11,9 @@ use Rattle.book.specs.Causes.{Cause, bad-size, no-record, bad-label, locked-end
 use Rattle.book.specs.Causes.{bad-tree, short-work, short-list, broken-frame, unknown-kind, not-open, touched-record, withdrawn-record, bad-tie}
 use Rattle.book.specs.Causes.{unordered-anchors, none-in-use, number, Caused}
 use Rattle.book.specs.Book.{Book}
-use Rattle.engine.specs.Drafts.{draftAnswer, draftNext}
-use Rattle.engine.specs.declared.drafts.DraftAnswer.{DraftAnswer}
-use Rattle.engine.specs.declared.drafts.DraftAnswer.the-variants.{Made, Refused}
+use Rattle.register.specs.Drafts.{draftAnswer, draftNext}
+use Rattle.register.specs.declared.DraftAnswer.{DraftAnswer}
+use Rattle.register.specs.declared.DraftAnswer.the-variants.{Made, Refused}
 use Rattle.host.specs.Host.{KeepsBook, pastCounts, refusal}
 use Rattle.host.specs.Drafts.{placeUnit, toldDraft, Applies}
 

@@ -13,10 +13,10 @@ use lib.ListN.{length, drop}
 use Rattle.book.specs.Causes.{broken-frame, not-open, number}
 use Rattle.register.specs.Words.{stateWords, Keeps, Foreign}
 use Rattle.register.specs.declared.Register.{Register}
-use Rattle.engine.specs.Drafts.{Drafts}
-use Rattle.engine.specs.declared.drafts.Applied.{Applied}
-use Rattle.engine.specs.declared.drafts.DraftAnswer.{DraftAnswer}
-use Rattle.engine.specs.declared.drafts.DraftAnswer.the-variants.{Made, Refused}
+use Rattle.register.specs.Drafts.{Drafts}
+use Rattle.register.specs.declared.Applied.{Applied}
+use Rattle.register.specs.declared.DraftAnswer.{DraftAnswer}
+use Rattle.register.specs.declared.DraftAnswer.the-variants.{Made, Refused}
 use Rattle.host.specs.Host.{pastCounts, refusal}
 
 abbrev pub placeUnit : ℕ

@@ -5,20 +5,22 @@
 --                   are as they were; and of words that keep a book, the list that the book gives is written over the front
 --   Calls cs ws vs ks ls
 --                   the calls cs, each given the words that the one before left, from the words ws on: the words vs at the end, the numbers ks, and the
---                   lists ls that the closings up among them were lent
+--                   lists ls that the closings up among them were lent. A list of edits that is made is its calls, each told 0; a refused one is no call
 --   WordsMade n cs vs
 --                   the exported calls cs, refused ones too, made the words vs, on words that asking for a fresh register of n records left
 -- Assumes nothing: these are definitions.
 use mathlib.Core.Path.{_≡_}
-use mathlib.Core.List.{List, [], _∷_}
-use Prim.Native.Nat.{ℕ}
-use lib.ListN.{length, drop}
+use mathlib.Core.List.{List, [], _∷_, _++_}
+use Prim.Native.Nat.{ℕ, _*_, _≤_, _<_}
+use lib.ListN.{length, drop, replicate}
 use Rattle.book.specs.Basics.{over}
 use Rattle.book.specs.Book.{Book, Edit, Call, edit, undo, close, given}
 use Rattle.register.specs.History.{Lent}
 use Rattle.register.specs.Words.{Keeps}
 use Rattle.register.specs.declared.Register.{Register}
-use Rattle.host.specs.Host.{KeepsBook, Freshens, Edits}
+use Rattle.register.specs.Drafts.{draftCalls}
+use Rattle.host.specs.Host.{KeepsBook, pastCounts, Freshens, Edits}
+use Rattle.host.specs.Drafts.{Applies}
 
 pub record Renumbers (state numbers : Lent) (k : ℕ) : Type 0 where
   pub edits : Edits (close (length (numbers .before))) (state .before) (state .after) k
@@ -34,6 +36,10 @@ pub data Calls : List Call → List ℕ → List ℕ → List ℕ → List Lent 
       → Calls (undo ∷ cs) ws vs (k ∷ ks) ls
   then-close : {cs : List Call} {ws us vs ks : List ℕ} {ls : List Lent} {k : ℕ} (l : Lent) → Renumbers (record { before = ws; after = us }) l k
       → Calls cs us vs ks ls → Calls (close (length (l .before)) ∷ cs) ws vs (k ∷ ks) (l ∷ ls)
+  then-draft : {cs : List Call} {ws us vs ks : List ℕ} {ls : List Lent} {k : ℕ} (ds : List ℕ) → Applies ds ws us k → k < 2 * pastCounts
+      → Calls cs us vs ks ls → Calls (draftCalls ds ++ cs) ws vs (replicate (length ds) 0 ++ ks) ls
+  refused-draft : {cs : List Call} {ws us vs ks : List ℕ} {ls : List Lent} {k : ℕ} (ds : List ℕ) → Applies ds ws us k → 2 * pastCounts ≤ k
+      → Calls cs us vs ks ls → Calls cs ws vs ks ls
 
 pub record WordsMade (n : ℕ) (cs : List Call) (vs : List ℕ) : Type 0 where
   pub blank : List ℕ

@@ -4,7 +4,6 @@ ghost use Rattle.query.specs.Asking.{AsksRows};
 ghost use Rattle.host.specs.Host.{toldCounted, Asked};
 use answers::told;
 use answers::told_refusal;
-use register::Register;
 
 // The pairs that have a chain, as `dating_pairs` gives them, by rows of bits: the work is 32 relations of n rows, 64 columns to a word.
 #[no_mangle]
@@ -17,10 +16,10 @@ pub extern "C" fn dating_pairs_by_rows(
     ensures { λ k. ⌜ Asked (now (state .entry)) (λ r. AsksRows r (now (text .entry)) (length (now (work .entry))) (now (list .entry)) (now (list .exit)))
         toldCounted (now (list .entry)) (now (list .exit)) k ⌝ }
 {
-    let loaded = Register::load(state);
-    let answer = loaded.answer;
-    if register::number_of(answer) != 0 {
+    if !register::is_register(state) {
         return told_refusal(book::NOT_OPEN);
     }
-    told(engine::pairs_by_rows(loaded.register, text, work, list))
+    let marks = register::marks_in(state);
+    let links = register::links_in(state);
+    told(rowpairs::pairs_over(marks, links, text, work, list))
 }

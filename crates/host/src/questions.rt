@@ -73,12 +73,12 @@ pub extern "C" fn dating_chain(
     ensures { λ k. ⌜ Asked (now (state .entry)) (λ r. Replies r from to (now (text .entry)) (length (now (work .entry))) (now (list .entry)) (now (list .exit)))
         toldChain (now (list .entry)) (now (list .exit)) k ⌝ }
 {
-    let loaded = Register::load(state);
-    let answer = loaded.answer;
-    if register::number_of(answer) != 0 {
+    if !register::is_register(state) {
         return told_refusal(book::NOT_OPEN);
     }
-    told_chain(engine::chain(loaded.register, from, to, text, work, list))
+    let marks = register::marks_in(state);
+    let links = register::links_in(state);
+    told_chain(chains::chain_over(marks, links, from, to, text, work, list))
 }
 
 // The ends of a record, ascending, as many as the list takes; how many they are in all.
@@ -87,12 +87,12 @@ pub extern "C" fn dating_ends(state: &[u32], from: u16, text: &[u8], list: &mut 
     ensures { λ k. ⌜ Asked (now (state .entry)) (λ r. AsksEnds r from (now (text .entry)) (now (list .entry)) (now (list .exit)))
         toldCounted (now (list .entry)) (now (list .exit)) k ⌝ }
 {
-    let loaded = Register::load(state);
-    let answer = loaded.answer;
-    if register::number_of(answer) != 0 {
+    if !register::is_register(state) {
         return told_refusal(book::NOT_OPEN);
     }
-    told(engine::ends_of(loaded.register, from, text, list))
+    let marks = register::marks_in(state);
+    let links = register::links_in(state);
+    told(ends::joined_over(marks, links, from, text, false, list))
 }
 
 // The starts of a record, likewise.
@@ -101,10 +101,10 @@ pub extern "C" fn dating_starts(state: &[u32], to: u16, text: &[u8], list: &mut 
     ensures { λ k. ⌜ Asked (now (state .entry)) (λ r. AsksStarts r to (now (text .entry)) (now (list .entry)) (now (list .exit)))
         toldCounted (now (list .entry)) (now (list .exit)) k ⌝ }
 {
-    let loaded = Register::load(state);
-    let answer = loaded.answer;
-    if register::number_of(answer) != 0 {
+    if !register::is_register(state) {
         return told_refusal(book::NOT_OPEN);
     }
-    told(engine::starts_of(loaded.register, to, text, list))
+    let marks = register::marks_in(state);
+    let links = register::links_in(state);
+    told(ends::joined_over(marks, links, to, text, true, list))
 }

@@ -1,6 +1,6 @@
 -- Laws of `bitAt`, `onesBelow` and `wordsOf`.
 --   Bits f                f has no value but 0 and 1
---   bit-lt, bit-in, bit-out, bit-within, bit-zero, bit-replicate
+--   bit-lt, bit-in, bit-out, bit-within, bit-zero, zeros-at, bit-replicate
 --                         a bit of words: below 2, a digit of its word, 0 past the end and in a word of 0
 --   bit-set, bit-set-off  after a word is stored: its own bits, and every other as it was
 --   bit-take              the bits of a part of the words
@@ -8,8 +8,8 @@
 --   Upto n f g            f and g agree in the first n words
 --   upto-none, upto-more, upto-all
 --                         words written in turn: before the first, one more, all of them
---   ones-le, ones-gap, ones-more, ones-part, ones-word, ones-shl
---                         the count of ones: below its bound, over a gap, one digit more, of a part of a word, of a whole one, of a word shifted
+--   ones-le, ones-most, ones-less, ones-gap, ones-more, ones-part, ones-word, ones-shl
+--                         the count of ones: below its bound, of fewer ones, over a gap, one digit more, of a part of a word, of a whole one, of a word shifted
 --   ones-cons, ones-append, ones-first
 --                         the count of ones of lists of bits, joined
 --   value-lt, value-digit
@@ -67,13 +67,13 @@ pub bit-zero : (ws : List ℕ) (p : ℕ) → getD ws (p / 64) 0 ≡ 0 → bitAt 
 unfolding bitAt
 bit-zero ws p e = rw e (digit-none (p % 64))
 
+pub zeros-at : (n i : ℕ) → getD {A = ℕ} (replicate n 0) i 0 ≡ 0
+zeros-at zero i = refl
+zeros-at (suc n) zero = refl
+zeros-at (suc n) (suc i) = zeros-at n i
+
 pub bit-replicate : (n p : ℕ) → bitAt (replicate n 0) p ≡ 0
-bit-replicate n p = bit-zero (replicate n 0) p (zero-at n (p / 64))
-  where
-    zero-at : (n i : ℕ) → getD {A = ℕ} (replicate n 0) i 0 ≡ 0
-    zero-at zero i = refl
-    zero-at (suc n) zero = refl
-    zero-at (suc n) (suc i) = zero-at n i
+bit-replicate n p = bit-zero (replicate n 0) p (zeros-at n (p / 64))
 
 -- ---- a store of v at word q
 pub bit-set : (ws : List ℕ) (q v k : ℕ) → q < length ws → k / 64 ≡ q → bitAt (set ws q v) k ≡ digit v (k % 64)
@@ -125,6 +125,24 @@ pub ones-le : (f : ℕ → ℕ) → Bits f → (n : ℕ) → onesBelow f n ≤ n
 unfolding onesBelow
 ones-le f b zero = zero-le
 ones-le f b (suc n) = omega (arith, ones-le f b n, b n)
+
+-- fewer ones
+pub ones-most : (g f : ℕ → ℕ) (n : ℕ) → ((y : ℕ) → y < n → g y ≤ f y) → onesBelow g n ≤ onesBelow f n
+unfolding onesBelow
+ones-most g f zero h = omega arith
+ones-most g f (suc n) h = omega (arith, ones-most g f n (λ y l. h y (omega arith)), h n (omega arith))
+
+pub ones-less : (g f : ℕ → ℕ) (n z : ℕ) → z < n → ((y : ℕ) → y < n → g y ≤ f y) → g z < f z → onesBelow g n < onesBelow f n
+unfolding onesBelow
+ones-less g f zero z l h s = absurd (omega arith)
+ones-less g f (suc n) z l h s = go (decLt z n) (λ k. ones-less g f n z k (λ y d. h y (omega arith)) s)
+  where
+    go : Dec (z < n) → (z < n → onesBelow g n < onesBelow f n) → onesBelow g n + g n < onesBelow f n + f n
+    go (yes k) i = omega (arith, i k, h n (omega arith))
+    go (no k) i =
+        let e : z ≡ n = omega arith in
+        let q : g n < f n = rw (← e) s in
+        omega (arith, ones-most g f n (λ y d. h y (omega arith)), q)
 
 ones-far : (f : ℕ → ℕ) (p d : ℕ) → ((k : ℕ) → p ≤ k → k < p + d → f k ≡ 0) → onesBelow f (p + d) ≡ onesBelow f p
 unfolding onesBelow

@@ -2,7 +2,7 @@
 --   shifted p v           the digits of v from place p on
 --   digit-lt, digit-zero, digit-suc, digit-none
 --                         a digit is 0 or 1; the lowest, the others, and those of 0
---   one-shl               `1 << r` at a width of 64 is a power of two
+--   one-shl, one-shl-32   `1 << r` at a width of 64, and of 32, is a power of two
 --   digit-or, digit-and, digit-not
 --                         the digits of `|`, `&` and `!`
 --   digit-pow, digit-big  a power of two has one digit set; above the highest digit all are 0
@@ -45,6 +45,9 @@ digit-none k = rw zero-div
 -- `1 << r` at a width of 64
 pub one-shl : (r : ℕ) → r < 64 → (1 * 2 ^ r) % 2 ^ 64 ≡ 2 ^ r
 one-shl r h = shl-exact 1 r 64 (lit< tt) (omega arith) ∙ one-mul (2 ^ r)
+
+pub one-shl-32 : (r : ℕ) → r < 32 → (1 * 2 ^ r) % 2 ^ 32 ≡ 2 ^ r
+one-shl-32 r h = shl-exact 1 r 32 (lit< tt) (omega arith) ∙ one-mul (2 ^ r)
 
 -- ---- the operators
 low : (x y : ℕ) → y < 2 → (x * 2 + y) % 2 ≡ y

@@ -8,7 +8,7 @@
 --   cells h a        the last level: the cell at each place
 --   anyFour f p      1 if one of the four bits from p on is 1, else 0
 --   fourOf f p       the four bits from p on
---   squeezed f n     of the first n groups of four bits, those that are not all 0, in order
+--   compacted f n     of the first n groups of four bits, those that are not all 0, in order
 --   groups f n       how many those are
 -- Assumes nothing: these are definitions.
 use mathlib.Core.List.{List, [], _∷_, _++_, map}
@@ -57,9 +57,9 @@ abbrev pub ifAny : ℕ → List ℕ → List ℕ
 ifAny zero l = []
 ifAny (suc b) l = l
 
-unfoldable pub squeezed : (ℕ → ℕ) → ℕ → List ℕ
-squeezed f zero = []
-squeezed f (suc n) = squeezed f n ++ ifAny (anyFour f (4 * n)) (fourOf f (4 * n))
+unfoldable pub compacted : (ℕ → ℕ) → ℕ → List ℕ
+compacted f zero = []
+compacted f (suc n) = compacted f n ++ ifAny (anyFour f (4 * n)) (fourOf f (4 * n))
 
 unfoldable pub groups : (ℕ → ℕ) → ℕ → ℕ
 groups f zero = 0

@@ -2,7 +2,7 @@
 --   full-length    how many bits the full tree of some squares has
 --   above-law      a bit above the cells is the largest of the four below it
 --   leaf-law       the last level is the cells
---   squeezed-past  groups of 0 add nothing
+--   compacted-past  groups of 0 add nothing
 --   full-above, full-cell, full-past
 --                  the same of the full tree of one square, and that it has nothing past its end
 --   full-tree      the groups of it that are not all 0 are the set's tree
@@ -21,7 +21,7 @@ use Rattle.k2.specs.Bits.{bitsOf}
 use Rattle.k2.specs.PairSets.{Cells}
 use Rattle.k2.specs.Trees.{quadrant, filled, quarters, keep, keepIf, levels, treeBits}
 use Rattle.k2.specs.Nodes.{quarterOf}
-use Rattle.k2.specs.Heap.{fullLevels, full, fullSize, place, anyFour, fourOf, ifAny, squeezed}
+use Rattle.k2.specs.Heap.{fullLevels, full, fullSize, place, anyFour, fourOf, ifAny, compacted}
 use Rattle.k2.specs.NodeLaws.{map-at, half-lt, filled-lt, quarters-length, quarters-at, quadrant-cell, blank}
 
 pub full-length : (h : ℕ) (qs : List Cells) → length (fullLevels h qs) ≡ fullSize h (length qs)
@@ -119,26 +119,26 @@ leaf-law (suc h) qs j x y l hx hy =
 
 -- ---- the groups that are not all 0
 -- as a function on lists
-unfoldable squeeze : List ℕ → List ℕ
-squeeze [] = []
-squeeze (a ∷ []) = []
-squeeze (a ∷ b ∷ []) = []
-squeeze (a ∷ b ∷ c ∷ []) = []
-squeeze (a ∷ b ∷ c ∷ d ∷ l) = ifAny (max (max a b) (max c d)) (a ∷ b ∷ c ∷ d ∷ []) ++ squeeze l
+unfoldable compact : List ℕ → List ℕ
+compact [] = []
+compact (a ∷ []) = []
+compact (a ∷ b ∷ []) = []
+compact (a ∷ b ∷ c ∷ []) = []
+compact (a ∷ b ∷ c ∷ d ∷ l) = ifAny (max (max a b) (max c d)) (a ∷ b ∷ c ∷ d ∷ []) ++ compact l
 
 -- of a level: the quarters of the squares that are not empty
-squeeze-level : (h : ℕ) (qs : List Cells) (L : List ℕ)
-    → squeeze (map (filled h) (quarters h qs) ++ L) ≡ map (filled h) (quarters h (keep (filled (suc h)) qs)) ++ squeeze L
-unfolding quarters keep filled squeeze
-squeeze-level h [] L = refl
-squeeze-level h (a ∷ qs) L = go (filled (suc h) a) refl (squeeze-level h qs L)
+compact-level : (h : ℕ) (qs : List Cells) (L : List ℕ)
+    → compact (map (filled h) (quarters h qs) ++ L) ≡ map (filled h) (quarters h (keep (filled (suc h)) qs)) ++ compact L
+unfolding quarters keep filled compact
+compact-level h [] L = refl
+compact-level h (a ∷ qs) L = go (filled (suc h) a) refl (compact-level h qs L)
   where
     F : ℕ → ℕ
     F q = filled h (quadrant h q a)
 
-    go : (b : ℕ) → filled (suc h) a ≡ b → squeeze (map (filled h) (quarters h qs) ++ L) ≡ map (filled h) (quarters h (keep (filled (suc h)) qs)) ++ squeeze L
-        → ifAny (max (max (F 0) (F 1)) (max (F 2) (F 3))) (F 0 ∷ F 1 ∷ F 2 ∷ F 3 ∷ []) ++ squeeze (map (filled h) (quarters h qs) ++ L)
-        ≡ map (filled h) (quarters h (keepIf b a (keep (filled (suc h)) qs))) ++ squeeze L
+    go : (b : ℕ) → filled (suc h) a ≡ b → compact (map (filled h) (quarters h qs) ++ L) ≡ map (filled h) (quarters h (keep (filled (suc h)) qs)) ++ compact L
+        → ifAny (max (max (F 0) (F 1)) (max (F 2) (F 3))) (F 0 ∷ F 1 ∷ F 2 ∷ F 3 ∷ []) ++ compact (map (filled h) (quarters h qs) ++ L)
+        ≡ map (filled h) (quarters h (keepIf b a (keep (filled (suc h)) qs))) ++ compact L
     go zero e ih = rw (e, ih)
     go (suc b) e ih = rw (e, ih)
 
@@ -162,25 +162,25 @@ keep-quarters h (a ∷ qs) = go (filled (suc h) a) refl (keep-quarters h qs)
         rw (z₀, z₁, z₂, z₃) ih
     go (suc b) e ih = ap four ih
 
-squeeze-law : (h : ℕ) (qs : List Cells) → squeeze (fullLevels h qs) ≡ levels h (keep (filled h) qs)
+compact-law : (h : ℕ) (qs : List Cells) → compact (fullLevels h qs) ≡ levels h (keep (filled h) qs)
 unfolding fullLevels levels
-squeeze-law zero qs = unfold squeeze in refl
-squeeze-law (suc h) qs =
-    squeeze-level h qs (fullLevels h (quarters h qs))
+compact-law zero qs = unfold compact in refl
+compact-law (suc h) qs =
+    compact-level h qs (fullLevels h (quarters h qs))
     ∙ ap (λ (l : List ℕ). map (filled h) (quarters h (keep (filled (suc h)) qs)) ++ l)
-    (squeeze-law h (quarters h qs) ∙ ap (levels h) (sym (keep-quarters h qs)))
+    (compact-law h (quarters h qs) ∙ ap (levels h) (sym (keep-quarters h qs)))
 
 -- as a loop finds them
 from4 : (f : ℕ → ℕ) → ℕ → ℕ
 from4 f p = f (4 + p)
 
-squeezed-front : (f : ℕ → ℕ) (n : ℕ) → squeezed f (suc n) ≡ ifAny (anyFour f 0) (fourOf f 0) ++ squeezed (from4 f) n
-unfolding squeezed from4
-squeezed-front f zero = rw append-nil
-squeezed-front f (suc n) =
-    ap (λ (l : List ℕ). l ++ ifAny (anyFour f (4 * suc n)) (fourOf f (4 * suc n))) (squeezed-front f n)
-    ∙ append-assoc (ifAny (anyFour f 0) (fourOf f 0)) (squeezed (from4 f) n) (ifAny (anyFour f (4 * suc n)) (fourOf f (4 * suc n)))
-    ∙ ap (λ (l : List ℕ). ifAny (anyFour f 0) (fourOf f 0) ++ (squeezed (from4 f) n ++ l)) (rw (e, ← add-assoc, ← add-assoc, ← add-assoc) refl)
+compacted-front : (f : ℕ → ℕ) (n : ℕ) → compacted f (suc n) ≡ ifAny (anyFour f 0) (fourOf f 0) ++ compacted (from4 f) n
+unfolding compacted from4
+compacted-front f zero = rw append-nil
+compacted-front f (suc n) =
+    ap (λ (l : List ℕ). l ++ ifAny (anyFour f (4 * suc n)) (fourOf f (4 * suc n))) (compacted-front f n)
+    ∙ append-assoc (ifAny (anyFour f 0) (fourOf f 0)) (compacted (from4 f) n) (ifAny (anyFour f (4 * suc n)) (fourOf f (4 * suc n)))
+    ∙ ap (λ (l : List ℕ). ifAny (anyFour f 0) (fourOf f 0) ++ (compacted (from4 f) n ++ l)) (rw (e, ← add-assoc, ← add-assoc, ← add-assoc) refl)
   where
     e : 4 * suc n ≡ 4 + 4 * n
     e = omega arith
@@ -188,27 +188,27 @@ squeezed-front f (suc n) =
 drop4 : (a b c d : ℕ) (l : List ℕ) (p : ℕ) → getD (a ∷ b ∷ c ∷ d ∷ l) (4 + p) 0 ≡ getD l p 0
 drop4 a b c d l p = getD-append-add (a ∷ b ∷ c ∷ d ∷ []) l p 0
 
-squeezed-list : (n : ℕ) (xs : List ℕ) → length xs ≡ 4 * n → squeezed (bitsOf xs) n ≡ squeeze xs
-unfolding squeezed squeeze from4
-squeezed-list zero [] e = refl
-squeezed-list zero (x ∷ xs) e = absurd (omega arith)
-squeezed-list (suc n) [] e = absurd (omega arith)
-squeezed-list (suc n) (a ∷ []) e = absurd (omega arith)
-squeezed-list (suc n) (a ∷ b ∷ []) e = absurd (omega arith)
-squeezed-list (suc n) (a ∷ b ∷ c ∷ []) e = absurd (omega arith)
-squeezed-list (suc n) (a ∷ b ∷ c ∷ d ∷ l) e =
-    squeezed-front (bitsOf (a ∷ b ∷ c ∷ d ∷ l)) n
+compacted-list : (n : ℕ) (xs : List ℕ) → length xs ≡ 4 * n → compacted (bitsOf xs) n ≡ compact xs
+unfolding compacted compact from4
+compacted-list zero [] e = refl
+compacted-list zero (x ∷ xs) e = absurd (omega arith)
+compacted-list (suc n) [] e = absurd (omega arith)
+compacted-list (suc n) (a ∷ []) e = absurd (omega arith)
+compacted-list (suc n) (a ∷ b ∷ []) e = absurd (omega arith)
+compacted-list (suc n) (a ∷ b ∷ c ∷ []) e = absurd (omega arith)
+compacted-list (suc n) (a ∷ b ∷ c ∷ d ∷ l) e =
+    compacted-front (bitsOf (a ∷ b ∷ c ∷ d ∷ l)) n
     ∙ ap (λ (x : List ℕ). ifAny (max (max a b) (max c d)) (a ∷ b ∷ c ∷ d ∷ []) ++ x)
-    (ap (λ (f : ℕ → ℕ). squeezed f n) (fun-ext {f = from4 (bitsOf (a ∷ b ∷ c ∷ d ∷ l))} {g = bitsOf l} (λ p. drop4 a b c d l p))
-    ∙ squeezed-list n l (omega arith))
+    (ap (λ (f : ℕ → ℕ). compacted f n) (fun-ext {f = from4 (bitsOf (a ∷ b ∷ c ∷ d ∷ l))} {g = bitsOf l} (λ p. drop4 a b c d l p))
+    ∙ compacted-list n l (omega arith))
 
 -- groups of 0 add nothing
-pub squeezed-past : (f : ℕ → ℕ) (n d : ℕ) → ((p : ℕ) → 4 * n ≤ p → f p ≡ 0) → squeezed f (n + d) ≡ squeezed f n
-unfolding squeezed
-squeezed-past f n zero z = ap (squeezed f) (add-zero n)
-squeezed-past f n (suc d) z = ap (squeezed f) (add-suc n d) ∙ (
+pub compacted-past : (f : ℕ → ℕ) (n d : ℕ) → ((p : ℕ) → 4 * n ≤ p → f p ≡ 0) → compacted f (n + d) ≡ compacted f n
+unfolding compacted
+compacted-past f n zero z = ap (compacted f) (add-zero n)
+compacted-past f n (suc d) z = ap (compacted f) (add-suc n d) ∙ (
     rw (z (4 * (n + d)) (omega arith), z (4 * (n + d) + 1) (omega arith), z (4 * (n + d) + 2) (omega arith), z (4 * (n + d) + 3) (omega arith), append-nil)
-    (squeezed-past f n d z))
+    (compacted-past f n d z))
 
 -- ---- of one square
 module _ (h : ℕ) (a : Cells) where
@@ -226,9 +226,9 @@ module _ (h : ℕ) (a : Cells) where
   unfolding full
   full-past p l = List·getD-eq-default (fullLevels h (a ∷ [])) 0 (rw full-length l)
 
-  pub full-tree : (n : ℕ) → fullSize h 1 ≡ 4 * n → squeezed (full h a) n ≡ treeBits h a
+  pub full-tree : (n : ℕ) → fullSize h 1 ≡ 4 * n → compacted (full h a) n ≡ treeBits h a
   unfolding full treeBits
-  full-tree n e = squeezed-list n (fullLevels h (a ∷ [])) (full-length h (a ∷ []) ∙ e) ∙ squeeze-law h (a ∷ [])
+  full-tree n e = compacted-list n (fullLevels h (a ∷ [])) (full-length h (a ∷ []) ∙ e) ∙ compact-law h (a ∷ [])
 
 full-bits-list : (h : ℕ) (qs : List Cells) (k : ℕ) → bitsOf (fullLevels h qs) k < 2
 full-bits-list zero qs k = unfold fullLevels in (omega arith)

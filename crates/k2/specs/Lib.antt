@@ -1,3 +1,4 @@
+pub mod Sizes
 pub mod Bits
 pub mod PairSets
 pub mod Trees

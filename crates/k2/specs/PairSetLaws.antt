@@ -1,7 +1,7 @@
 -- Laws of sets of pairs, of the operations on them, and of their pairs as listed words.
 --   one-of, bit-small, bit-on, on-bit
 --                         numbers that are not 0; a test as a number
---   most-some, some-most, most-bit, most-none
+--   most-some, some-most, most-bit, most-same, most-none
 --                         the largest of the first n values: 1 or more exactly if one of them is
 --   union-set, intersection-set, difference-set, product-set, transpose-set, via-set, closure-set, diagonal-set
 --                         each operation makes a set of sets
@@ -18,8 +18,9 @@
 --   listed-within, listed-rises, listed-below
 --                         the listed words ascend, each once, and are of records below n
 --   setOf-listed          the set of the listed words is the set
+--   head-same             the first of two equal lists of sets
 -- Assumes nothing.
-use mathlib.Core.Path.{_≡_, refl, sym, ap, _∙_, fun-ext, subst}
+use mathlib.Core.Path.{_≡_, refl, sym, ap, ap₂, _∙_, fun-ext, subst}
 use mathlib.Core.Logic.{_⊎_, inl, inr, ⊎-elim}
 use mathlib.Core.Bool.{Bool, true, false}
 use mathlib.Core.List.{List, [], _∷_, _++_}
@@ -72,6 +73,11 @@ pub most-bit : (n : ℕ) (f : ℕ → ℕ) → ((z : ℕ) → f z < 2) → most 
 unfolding most
 most-bit zero f h = omega arith
 most-bit (suc n) f h = omega (arith, most-bit n f h, h n)
+
+pub most-same : (n : ℕ) (f g : ℕ → ℕ) → ((z : ℕ) → z < n → f z ≡ g z) → most n f ≡ most n g
+unfolding most
+most-same zero f g e = refl
+most-same (suc n) f g e = ap₂ max (most-same n f g (λ z l. e z (omega arith))) (e n (omega arith))
 
 pub most-none : (n : ℕ) (f : ℕ → ℕ) → ((z : ℕ) → z < n → f z ≡ 0) → most n f ≡ 0
 unfolding most
@@ -408,3 +414,7 @@ setOf-listed n a nl A = fun-ext (λ x. fun-ext (λ y. go x y (decLt 0 (a x y)) (
         in-set (listed n a) x y (omega (arith, i .1)) (listed-in n a x y (i .0) (i .1) h) ∙ omega (arith, A .bit x y)
     go x y (no h) (yes d) = absurd (h (back x y d))
     go x y (no h) (no d) = omega arith
+
+-- the first of a list of sets
+pub head-same : {a b : Cells} {l j : List Cells} → a ∷ l ≡ b ∷ j → a ≡ b
+head-same e = cc

@@ -19,7 +19,7 @@ use lib.Arith.{mod-mul}
 use lib.Pow.{pow-pos, field, mod-mod-pow}
 use Rattle.k2.specs.Nodes.{quarterOf}
 use Rattle.k2.specs.Heap.{place, rowAt, columnAt}
-use Rattle.k2.specs.NodeLaws.{half-lt}
+use Rattle.k2.specs.NodeLaws.{half-lt, quarter-lt}
 
 pub four-pos : (h : ℕ) → 0 < 4 ^ h
 four-pos zero = omega arith
@@ -44,15 +44,12 @@ two-lt s zero p h l = omega arith
 two-lt s (suc zero) p h l = omega arith
 two-lt s (suc (suc q)) p h l = absurd (omega arith)
 
-quad-lt : (h x y : ℕ) → x < 2 ^ suc h → y < 2 ^ suc h → quarterOf (2 ^ h) x y < 4
-quad-lt h x y l g = omega (arith, half-lt h x l, half-lt h y g)
-
 pub place-lt : (h x y : ℕ) → x < 2 ^ h → y < 2 ^ h → place h x y < 4 ^ h
 unfolding place
 place-lt zero x y hx hy = omega arith
 place-lt (suc h) x y hx hy =
     rw (pow-suc 4 h)
-    (four-lt (4 ^ h) (quarterOf (2 ^ h) x y) (place h (x % 2 ^ h) (y % 2 ^ h)) (quad-lt h x y hx hy)
+    (four-lt (4 ^ h) (quarterOf (2 ^ h) x y) (place h (x % 2 ^ h) (y % 2 ^ h)) (quarter-lt h x y hx hy)
     (place-lt h (x % 2 ^ h) (y % 2 ^ h) (mod-lt x (pow-pos h)) (mod-lt y (pow-pos h))))
 
 -- of a place the row and the column

@@ -1,11 +1,11 @@
--- Laws of sizes: of `fullSize`, of `squeezed`, and D as the words of a full tree.
+-- Laws of sizes: of `fullSize`, of `compacted`, and D as the words of a full tree.
 --   fullSize-last, fullSize-four, fullSize-power, fullSize-next
 --                  the bits of a full tree: level by level, in fours, as a power, with one level more
 --   square-power, four-most, fullSize-most
 --                  for sides of at most 1,024: how many cells and bits at most
 --   treeUnit-size, treeUnit-some, treeUnit-most, treeUnit-mono
 --                  D is the words of a full tree, at least 1, at most 21,846, and not more for fewer records
---   squeezed-length, groups-most
+--   compacted-length, groups-most
 --                  the groups that are not all 0: their bits, and that they are no more than all
 --   treeBits-most, treeWords-most
 --                  a tree is no longer than a full one, nor its words than D
@@ -16,9 +16,10 @@ use native.Mathlib.Nat.{mul-comm, mul-assoc, mul-le-mul, pow-suc}
 use native.Mathlib.Omega.{arith}
 use lib.ListN.{length, length-append}
 use lib.Pow.{pow-mono}
+use Rattle.k2.specs.Sizes.{mostTreeBits, mostTreeWords}
 use Rattle.k2.specs.PairSets.{Cells}
 use Rattle.k2.specs.Trees.{height, treeBits, treeWords, treeUnit}
-use Rattle.k2.specs.Heap.{fullSize, full, anyFour, fourOf, ifAny, squeezed, groups}
+use Rattle.k2.specs.Heap.{fullSize, full, anyFour, fourOf, ifAny, compacted, groups}
 use Rattle.k2.specs.HeightLaws.{height-is, height-most}
 use Rattle.k2.specs.PlaceLaws.{four-pos}
 use Rattle.k2.specs.BitLaws.{words-length}
@@ -60,7 +61,7 @@ four-most h l =
     let t : 2 ^ h * 2 ^ h ≤ 1024 * 1024 = mul-le-mul s s in
     rw (← square-power h) t
 
-pub fullSize-most : (h : ℕ) → h ≤ 10 → fullSize h 1 ≤ 1398100
+pub fullSize-most : (h : ℕ) → h ≤ 10 → fullSize h 1 ≤ mostTreeBits
 fullSize-most h l = omega (arith, fullSize-power h, four-most h l)
 
 -- D
@@ -78,7 +79,7 @@ treeUnit-some n = omega (arith, treeUnit-size n, fullSize-power (height n), four
     four-some zero l = absurd (omega arith)
     four-some (suc h) l = omega (arith, pow-suc 4 h, four-pos h)
 
-pub treeUnit-most : (n : ℕ) → n ≤ 1024 → treeUnit n ≤ 21846
+pub treeUnit-most : (n : ℕ) → n ≤ 1024 → treeUnit n ≤ mostTreeWords
 treeUnit-most n l = omega (arith, treeUnit-size n, fullSize-most (height n) (height-most n l))
 
 -- of fewer records it is not more
@@ -98,10 +99,10 @@ ifAny-length : (b : ℕ) (f : ℕ → ℕ) (p : ℕ) → length (ifAny b (fourOf
 ifAny-length zero f p = refl
 ifAny-length (suc b) f p = omega arith
 
-pub squeezed-length : (f : ℕ → ℕ) (n : ℕ) → length (squeezed f n) ≡ 4 * groups f n
-unfolding squeezed groups
-squeezed-length f zero = refl
-squeezed-length f (suc n) = rw (length-append, squeezed-length f n, ifAny-length (anyFour f (4 * n)) f (4 * n)) (omega arith)
+pub compacted-length : (f : ℕ → ℕ) (n : ℕ) → length (compacted f n) ≡ 4 * groups f n
+unfolding compacted groups
+compacted-length f zero = refl
+compacted-length f (suc n) = rw (length-append, compacted-length f n, ifAny-length (anyFour f (4 * n)) f (4 * n)) (omega arith)
 
 pub groups-most : (f : ℕ → ℕ) (n : ℕ) → groups f n ≤ n
 unfolding groups
@@ -113,7 +114,7 @@ pub treeBits-most : (h : ℕ) (a : Cells) → length (treeBits h a) ≤ fullSize
 treeBits-most h a =
     let n : ℕ = fullSize h 1 / 4 in
     let e : fullSize h 1 ≡ 4 * n = omega (arith, fullSize-four h 1) in
-    let s : length (treeBits h a) ≡ 4 * groups (full h a) n = ap length (sym (full-tree h a n e)) ∙ squeezed-length (full h a) n in
+    let s : length (treeBits h a) ≡ 4 * groups (full h a) n = ap length (sym (full-tree h a n e)) ∙ compacted-length (full h a) n in
     omega (arith, groups-most (full h a) n)
 
 pub treeWords-most : (n : ℕ) (a : Cells) → length (treeWords n a) ≤ treeUnit n

@@ -3,11 +3,10 @@
 --                  of two tests
 --   skip-on, skip-at, skip-none
 --                  blanks in front, one after the other, up to a byte that is none or the end
---   part-from, word-short
---                  what follows n bytes, as the code cuts it; a word is no longer than its line
 --   word-more, word-end, word-none
 --                  the bytes of a word, one after the other, up to a blank or the end
---   take-word      a word stands at the front of its line
+--   take-word, word-short
+--                  a word stands at the front of its line, and is no longer
 --   trim-blank, trim-at, trim-none
 --                  blanks at the end, one after the other, down to a byte that is none or the front
 --   length-text    what is sent of a text is within its limit
@@ -22,8 +21,8 @@ use mathlib.Core.Bool.{Bool, true, false, _&&_}
 use Prim.Native.Nat.{ℕ, zero, suc, _+_, _-_, _*_, _/_, _%_, _≤_, _<_}
 use native.Mathlib.Numerals.{add-one}
 use native.Mathlib.Omega.{arith}
-use lib.ListN.{length, take, drop, getD, length-append, length-take, length-drop, drop-of-length-le}
-use lib.Seq.{drop-cons, take-suc, take-all}
+use lib.ListN.{length, take, drop, getD, length-append, length-take, drop-of-length-le}
+use lib.Seq.{drop-cons, take-suc}
 use lib.Dec.{eqb, ltb}
 use borrow.Author.Tests.{eq-eqb, ne-eqb, eqb-true, le-leb, lt-ltb, ltb-true, ltb-false}
 use Rattle.report.specs.Report.{figures, decimal, figure-0}
@@ -57,10 +56,6 @@ pub skip-none : (s : List ℕ) → length s ≡ 0 → skip s ≡ s
 unfolding skip
 skip-none [] h = refl
 skip-none (c ∷ s) h = absurd (omega arith)
-
--- what follows n bytes, as the code cuts it
-pub part-from : (s : List ℕ) (n : ℕ) → take (length s - n) (drop n s) ≡ drop n s
-part-from s n = take-all (length s - n) (drop n s) (omega (arith, length-drop n s))
 
 -- ---- words
 pub word-more : (s : List ℕ) (i : ℕ) → i < length s → blank (getD s i 0) ≡ false → length (word (drop i s)) ≡ suc (length (word (drop (i + 1) s)))

@@ -12,7 +12,6 @@
 --   keeps-places, sums-meet
 --                     a placing that meets the ties keeps their arcs; a tie's two limits as sums, turned back to differences
 --   Holds a l         the distances l satisfy an arc, where it begins at a known one
---   by-test           a case for each way that a test comes out
 --   lower-ind         what an arc does: nothing, where it holds, or it lowers the distance of its end
 --   set-ind           what stands in a list after one place was set
 --   arc-length, lt-le, arc-down
@@ -25,7 +24,7 @@
 -- Assumes nothing.
 use mathlib.Core.Path.{_≡_, refl, sym, ap, _∙_, subst}
 use mathlib.Core.List.{List, [], _∷_}
-use mathlib.Core.Bool.{Bool, true, false, true≢false}
+use mathlib.Core.Bool.{true, false, true≢false}
 use Prim.Native.Nat.{ℕ, _+_, _*_, _<_, _≤_}
 use native.Mathlib.Omega.{arith}
 use lib.Dec.{ltb, eqb}
@@ -39,8 +38,9 @@ use Rattle.book.specs.ListLaws.{in-none}
 use Rattle.offsets.specs.declared.Tie.{Tie}
 use Rattle.offsets.specs.LinearLaws.{of-le, of-lt, of-ltb, of-not-ltb, to-le, to-lt, of-add, of-sub, of-neg-up, of-neg-down, least-as-sum, most-as-sum}
 use Rattle.offsets.specs.LinearLaws.{≤ℤ-trans}
-use Rattle.offsets.specs.Relax.{State, pick, known, dist, lower, third, relaxed, relaxTie, relaxAll}
+use Rattle.offsets.specs.Relax.{State, known, dist, lower, third, relaxed, relaxTie, relaxAll}
 use Rattle.offsets.specs.Offsets.{Placing, Places}
+use Rattle.offsets.specs.PlacingLaws.{pick-ind, by-test}
 
 pub record Arc : Type 0 where
   pub from : ℕ
@@ -118,14 +118,6 @@ sums-meet x y least most h k = (
 -- ---- one arc
 abbrev pub Holds : Arc → List ℤ → Type 0
 Holds a l = a .from < length l → a .to < length l → known (dist l (a .from)) ≡ true → dist l (a .to) ≤ℤ (dist l (a .from) +ℤ a .rise)
-
-pick-ind : (b : Bool) (x y : State) (Q : State → Type 0) → (b ≡ true → Q x) → (b ≡ false → Q y) → Q (pick b x y)
-pick-ind true x y Q f g = f refl
-pick-ind false x y Q f g = g refl
-
-pub by-test : (b : Bool) {Q : Type 0} → (b ≡ true → Q) → (b ≡ false → Q) → Q
-by-test true f g = f refl
-by-test false f g = g refl
 
 pub lower-ind : (a : Arc) (s : State) (Q : State → Type 0) → (Holds a (s .0) → Q s)
     → (a .from < length (s .0) → a .to < length (s .0) → known (dist (s .0) (a .from)) ≡ true → (dist (s .0) (a .from) +ℤ a .rise) <ℤ dist (s .0) (a .to)

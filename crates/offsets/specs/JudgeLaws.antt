@@ -9,7 +9,6 @@ use mathlib.Core.Path.{_≡_, refl, ap, _∙_}
 use mathlib.Core.List.{List, [], _∷_}
 use mathlib.Core.Bool.{Bool, true, false, _||_}
 use Prim.Native.Nat.{ℕ, _*_, _≤_, _<_}
-use native.Mathlib.Omega.{arith}
 use lib.Dec.{leb, ltb}
 use lib.IntN.{pos, negℤ}
 use lib.ListN.{length}
@@ -18,6 +17,7 @@ use borrow.Author.Tests.{leb-false, ltb-false}
 use Rattle.book.specs.Basics.{In, here, there}
 use Rattle.book.specs.Causes.{no-record, withdrawn-record, bad-tie, short-work, firstNumber, number, maxRecords, InOrder, none-left, same-cause, offsetsOrder}
 use Rattle.book.specs.BookLaws.{first-none}
+use Rattle.book.specs.SetLaws.{or-neither}
 use Rattle.offsets.specs.declared.Tie.{Tie}
 use Rattle.offsets.specs.LinearLaws.{to-le, of-not-ltb}
 use Rattle.offsets.specs.ThirdLaws.{Ready}
@@ -110,23 +110,16 @@ module _ (g : Records) where
       ∙ four (leb n base || anyTie far ts) (w base || anyTie gone ts) (ltb maxTies (length ts) || anyTie outside ts) (ltb work (offsetsWork n))
 
 -- ---- no cause
-or-no : (a b : Bool) → (a || b) ≡ false → (a ≡ false) × (b ≡ false)
-or-no true b e = absurd (true-no e)
-  where
-    true-no : true ≡ false → ⊥
-    true-no q = let z : _≡_ {A = ℕ} 0 1 = cc in omega arith
-or-no false b e = (refl, e)
-
 any-no : (test : Tie → Bool) (ts : List Tie) → anyTie test ts ≡ false → (t : Tie) → In t ts → test t ≡ false
 unfolding anyTie
-any-no test (u ∷ ts) e t here = or-no (test u) (anyTie test ts) e .0
-any-no test (u ∷ ts) e t (there i) = any-no test ts (or-no (test u) (anyTie test ts) e .1) t i
+any-no test (u ∷ ts) e t here = or-neither (test u) (anyTie test ts) e .0
+any-no test (u ∷ ts) e t (there i) = any-no test ts (or-neither (test u) (anyTie test ts) e .1) t i
 
 inside-limits : (t : Tie) → outside t ≡ false → (negℤ (pos maxRings) ≤ℤ t .least) × ((t .least ≤ℤ t .most) × (t .most ≤ℤ pos maxRings))
 unfolding outside
 inside-limits t e =
-    let p = or-no (ltZ (t .least) (negℤ (pos maxRings))) (ltZ (pos maxRings) (t .most) || ltZ (t .most) (t .least)) e in
-    let q = or-no (ltZ (pos maxRings) (t .most)) (ltZ (t .most) (t .least)) (p .1) in (
+    let p = or-neither (ltZ (t .least) (negℤ (pos maxRings))) (ltZ (pos maxRings) (t .most) || ltZ (t .most) (t .least)) e in
+    let q = or-neither (ltZ (pos maxRings) (t .most)) (ltZ (t .most) (t .least)) (p .1) in (
       to-le (of-not-ltb (t .least) (negℤ (pos maxRings)) (p .0)),
       (to-le (of-not-ltb (t .most) (t .least) (q .1)), to-le (of-not-ltb (pos maxRings) (t .most) (q .0))),
     )
@@ -139,13 +132,13 @@ no-cause-ready n w base ts work few e =
     let two = first-none withdrawn-record _ _ (one .1) in
     let three′ = first-none bad-tie _ _ (two .1) in
     let four′ = first-none short-work _ _ (three′ .1) in
-    let r = or-no (leb n base) (anyTie (λ t. leb n (t .first) || leb n (t .second)) ts) (one .0) in
-    let m = or-no (ltb maxTies (length ts)) (anyTie outside ts) (three′ .0) in (
+    let r = or-neither (leb n base) (anyTie (λ t. leb n (t .first) || leb n (t .second)) ts) (one .0) in
+    let m = or-neither (ltb maxTies (length ts)) (anyTie outside ts) (three′ .0) in (
       record {
         few-records = few;
         few-ties = ltb-false maxTies (length ts) (m .0);
         allowed = λ t i.
-            let f = or-no (leb n (t .first)) (leb n (t .second)) (any-no (λ t. leb n (t .first) || leb n (t .second)) ts (r .1) t i) in
+            let f = or-neither (leb n (t .first)) (leb n (t .second)) (any-no (λ t. leb n (t .first) || leb n (t .second)) ts (r .1) t i) in
             let l = inside-limits t (any-no outside ts (m .1) t i) in
             record {
               first-in = leb-false n (t .first) (f .0);

@@ -22,11 +22,11 @@ Placing = ℕ → ℤ
 abbrev pub Under : Placing → List ℤ → Type 0
 Under p l = (i : ℕ) → i < length l → known (dist l i) ≡ true → p i ≤ℤ dist l i
 
-pick-ind : (b : Bool) (x y : State) (Q : State → Type 0) → (b ≡ true → Q x) → (b ≡ false → Q y) → Q (pick b x y)
+pub pick-ind : (b : Bool) (x y : State) (Q : State → Type 0) → (b ≡ true → Q x) → (b ≡ false → Q y) → Q (pick b x y)
 pick-ind true x y Q f g = f refl
 pick-ind false x y Q f g = g refl
 
-by-test : (b : Bool) {Q : Type 0} → (b ≡ true → Q) → (b ≡ false → Q) → Q
+pub by-test : (b : Bool) {Q : Type 0} → (b ≡ true → Q) → (b ≡ false → Q) → Q
 by-test true f g = f refl
 by-test false f g = g refl
 

@@ -34,7 +34,8 @@ use Rattle.book.specs.ListLaws.{in-none}
 use Rattle.offsets.specs.LinearLaws.{of-le, of-leb, of-not-leb, to-le, to-lt, of-add, of-sub, ≤ℤ-trans}
 use Rattle.offsets.specs.Relax.{State, pick, known, dist}
 use Rattle.offsets.specs.Offsets.{Placing}
-use Rattle.offsets.specs.ArcLaws.{Arc, Keeps, arc, run, Holds, by-test, lower-ind, set-ind, run-down, holds-quiet, lt-le}
+use Rattle.offsets.specs.ArcLaws.{Arc, Keeps, arc, run, Holds, lower-ind, set-ind, run-down, holds-quiet, lt-le}
+use Rattle.offsets.specs.PlacingLaws.{by-test}
 
 -- ---- lists of records
 -- a list without one of its members

@@ -361,7 +361,7 @@ fn rounds_of(cause: u32, n: u16) -> usize
 }
 
 // The answer after the passes, told as 64 bits, and the words of the list if there are limits. The work is taken as it was lent, and read.
-fn hand_over(cause: u32, n: u16, on: bool, work: &mut [i64], list: &mut [i32]) -> u64
+fn tell_limits(cause: u32, n: u16, on: bool, work: &mut [i64], list: &mut [i32]) -> u64
     ensures { λ r. ⌜ inner.TellsOver cause n on (now (work .entry)) (now (list .entry)) (now (list .exit)) r ⌝ }
 {
     if cause != 0 {
@@ -391,5 +391,5 @@ pub fn offsets(state: &[u32], base: u16, ties: &[Tie], work: &mut [i64], list: &
     let cause = begin(state, n, base, found, ties.len(), work);
     let rounds = rounds_of(cause, n);
     let on = settle(ties, n, rounds, work);
-    hand_over(cause, n, on, work, list)
+    tell_limits(cause, n, on, work, list)
 }

@@ -1,7 +1,7 @@
-pub mod SizeLaws
+pub mod PlaceLaws
 pub mod WordLaws
 pub mod StoreLaws
-pub mod SqueezeLaws
+pub mod CompactLaws
 pub mod LiftLaws
 pub mod BlockLaws
 pub mod PackLaws

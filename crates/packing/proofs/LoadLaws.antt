@@ -12,7 +12,7 @@
 --                  the counts of ones kept by block, and the child place found by them
 --   square-plain, square-turned
 --                  `square`: four bits as a number, read with either sense
---   dive-child, dive-all, dive-gap
+--   descend-child, descend-all, descend-gap
 --                  one level down: a quarter that is not empty, all four, some that are empty
 --   quarter-in, one-le, quarter-even, half-law
 --                  a quarter fits where its square does, and begins at an even place
@@ -393,34 +393,34 @@ module _ (f : ℕ → ℕ) (bits : Bits f) (b v : ℕ) (e : v ≡ fourAt f b) wh
       )
 
 -- ---- a square of side 2 ^ h with h at least 1
-pub dive-child : (s : ℕ) (ws : List ℕ) (h b x y : ℕ) (t : Cells) → 1 ≤ h → Reads s ws h b x y t → (q : ℕ) → q < 4 → bitAt ws (b + turned s q) ≡ 1
+pub descend-child : (s : ℕ) (ws : List ℕ) (h b x y : ℕ) (t : Cells) → 1 ≤ h → Reads s ws h b x y t → (q : ℕ) → q < 4 → bitAt ws (b + turned s q) ≡ 1
     → Reads s ws (h - 1) (childPlace (bitAt ws) (b + turned s q)) (x + q / 2 * 2 ^ (h - 1)) (y + q % 2 * 2 ^ (h - 1)) t
-dive-child s ws zero b x y t l n q g o = absurd (omega arith)
-dive-child s ws (suc h) b x y t l n q g o = let e : suc h - 1 ≡ h = omega arith in rw e (reads-child s ws h b x y t n q g o)
+descend-child s ws zero b x y t l n q g o = absurd (omega arith)
+descend-child s ws (suc h) b x y t l n q g o = let e : suc h - 1 ≡ h = omega arith in rw e (reads-child s ws h b x y t n q g o)
 
-dive-empty : (s : ℕ) (ws : List ℕ) (h b x y : ℕ) (t a : Cells) → 1 ≤ h → Reads s ws h b x y t → (q : ℕ) → q < 4 → bitAt ws (b + turned s q) ≡ 0
+descend-empty : (s : ℕ) (ws : List ℕ) (h b x y : ℕ) (t a : Cells) → 1 ≤ h → Reads s ws h b x y t → (q : ℕ) → q < 4 → bitAt ws (b + turned s q) ≡ 0
     → union a (quartersTo q (h - 1) x y t) ≡ union a (quartersTo (q + 1) (h - 1) x y t)
-dive-empty s ws zero b x y t a l n q g o = absurd (omega arith)
-dive-empty s ws (suc h) b x y t a l n q g o = let e : suc h - 1 ≡ h = omega arith in rw e (quarters-empty q h x y t a (reads-empty s ws h b x y t n q g o))
+descend-empty s ws zero b x y t a l n q g o = absurd (omega arith)
+descend-empty s ws (suc h) b x y t a l n q g o = let e : suc h - 1 ≡ h = omega arith in rw e (quarters-empty q h x y t a (reads-empty s ws h b x y t n q g o))
 
-pub dive-all : (h x y : ℕ) (t : Cells) → 1 ≤ h → quartersTo 4 (h - 1) x y t ≡ inside h x y t
-dive-all zero x y t l = absurd (omega arith)
-dive-all (suc h) x y t l = let e : suc h - 1 ≡ h = omega arith in rw e (quarters-all h x y t)
+pub descend-all : (h x y : ℕ) (t : Cells) → 1 ≤ h → quartersTo 4 (h - 1) x y t ≡ inside h x y t
+descend-all zero x y t l = absurd (omega arith)
+descend-all (suc h) x y t l = let e : suc h - 1 ≡ h = omega arith in rw e (quarters-all h x y t)
 
 -- quarters passed that are empty
-pub dive-gap : (s : ℕ) (ws : List ℕ) (h b x y : ℕ) (t a : Cells) → 1 ≤ h → Reads s ws h b x y t
+pub descend-gap : (s : ℕ) (ws : List ℕ) (h b x y : ℕ) (t a : Cells) → 1 ≤ h → Reads s ws h b x y t
     → (q r : ℕ) → q ≤ r → r ≤ 4 → ((j : ℕ) → q ≤ j → j < r → bitAt ws (b + turned s j) ≡ 0)
     → union a (quartersTo q (h - 1) x y t) ≡ union a (quartersTo r (h - 1) x y t)
-dive-gap s ws h b x y t a l n q zero k g o = let e : q ≡ 0 = omega arith in rw e refl
-dive-gap s ws h b x y t a l n q (suc r) k g o =
-    go (ℕ-discrete q (suc r)) (λ p. dive-gap s ws h b x y t a l n q r p (omega arith) (λ j u v. o j u (omega arith)))
+descend-gap s ws h b x y t a l n q zero k g o = let e : q ≡ 0 = omega arith in rw e refl
+descend-gap s ws h b x y t a l n q (suc r) k g o =
+    go (ℕ-discrete q (suc r)) (λ p. descend-gap s ws h b x y t a l n q r p (omega arith) (λ j u v. o j u (omega arith)))
   where
     go : Dec (q ≡ suc r) → (q ≤ r → union a (quartersTo q (h - 1) x y t) ≡ union a (quartersTo r (h - 1) x y t))
         → union a (quartersTo q (h - 1) x y t) ≡ union a (quartersTo (suc r) (h - 1) x y t)
     go (yes e) more = rw e refl
     go (no e) more =
         let i : r + 1 ≡ suc r = omega arith in
-        more (omega (arith, e)) ∙ dive-empty s ws h b x y t a l n r (omega arith) (o r (omega (arith, e)) (omega arith))
+        more (omega (arith, e)) ∙ descend-empty s ws h b x y t a l n r (omega arith) (o r (omega (arith, e)) (omega arith))
         ∙ ap (λ (i : ℕ). union a (quartersTo i (h - 1) x y t)) i
 
 -- a quarter fits where its square does

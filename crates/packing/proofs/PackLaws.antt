@@ -20,9 +20,9 @@ use lib.Pow.{pow-mono, pow-add}
 use Rattle.k2.specs.Bits.{wordsOf}
 use Rattle.k2.specs.PairSets.{Cells, IsSet}
 use Rattle.k2.specs.Trees.{height, treeBits, treeWords, treeUnit}
-use Rattle.k2.specs.Heap.{fullSize, full, place, rowAt, columnAt, cells, squeezed}
+use Rattle.k2.specs.Heap.{fullSize, full, place, rowAt, columnAt, cells, compacted}
 use Rattle.k2.specs.PlaceLaws.{four-pos, place-at, row-lt, column-lt, row-step, column-step}
-use Rattle.k2.specs.HeapLaws.{full-above, full-cell, full-past, full-bits, full-tree, squeezed-past}
+use Rattle.k2.specs.HeapLaws.{full-above, full-cell, full-past, full-bits, full-tree, compacted-past}
 use Rattle.k2.specs.SizeLaws.{fullSize-last, fullSize-next, fullSize-four, fullSize-power, treeWords-most}
 use Rattle.packing.specs.Image.{raised, above, Heaped}
 use Rattle.packing.proofs.BlockLaws.{raised-in, raised-out, cells-in, cells-out}
@@ -96,12 +96,12 @@ full-heaped h a =
     }
 
 -- ---- the groups of whole words
-pub full-groups : (h n : ℕ) (a : Cells) → fullSize h 1 ≤ 64 * n → squeezed (full h a) (16 * n) ≡ treeBits h a
+pub full-groups : (h n : ℕ) (a : Cells) → fullSize h 1 ≤ 64 * n → compacted (full h a) (16 * n) ≡ treeBits h a
 full-groups h n a l =
     let q : ℕ = fullSize h 1 / 4 in
     let e : fullSize h 1 ≡ 4 * q = omega (arith, fullSize-four h 1) in
     let s : 16 * n ≡ q + (16 * n - q) = omega arith in
-    rw s (squeezed-past (full h a) q (16 * n - q) (λ p g. full-past h a p (omega arith)) ∙ full-tree h a q e)
+    rw s (compacted-past (full h a) q (16 * n - q) (λ p g. full-past h a p (omega arith)) ∙ full-tree h a q e)
 
 -- ---- a square of height h, filled by blocks of 8 × 8, of which 2 ^ g make a side
 module _ (h g : ℕ) (low : 1 ≤ h) (eg : g + 3 ≡ max h 3) where

@@ -9,7 +9,7 @@ use lib.ListN.{length, getD, set}
 use lib.Seq.{getD-set-same, getD-set-other}
 use Rattle.k2.specs.PairSets.{Cells, union}
 use Rattle.rows.specs.Rows.{noPairs}
-use Rattle.rows.specs.RowLaws.{union-none}
+use Rattle.rows.specs.RowLaws.{union-none, union-join}
 use Rattle.packing.specs.Reading.{inside, Reads, squareBit, squareRow, squareColumn, squaresTo, Fits, FitAll, ReadAll}
 
 -- what holds of the first m places holds of one more that is written
@@ -43,10 +43,6 @@ squares-set m h l w t g =
     ∙ ap₂ union (squares-same m h (set l m w) l 0 t (λ j u. getD-set-other l m (0 + j) w 0 (λ e. omega arith)))
     (ap (λ (i : ℕ). inside h (squareRow i) (squareColumn i) t) (ap (λ (i : ℕ). getD (set l m w) i 0) z ∙ getD-set-same l m w 0 g))
 
-pub union-next : (a b c : Cells) → union (union a b) c ≡ union a (union b c)
-unfolding union
-union-next a b c = fun-ext (λ i. fun-ext (λ j. omega arith))
-
 pub squares-none : (h : ℕ) (l : List ℕ) (i : ℕ) (t a : Cells) → a ≡ union a (squaresTo 0 h l i t)
 unfolding squaresTo union noPairs
 squares-none h l i t a = fun-ext (λ i. fun-ext (λ j. omega arith))
@@ -61,9 +57,9 @@ squares-more k (suc j) h l t a =
     let p : k + j ≡ 0 + (k + j) = omega arith in
     ap (λ (n : ℕ). union (union a (squaresTo k h l 0 t)) (squaresTo n h l k t)) e
     ∙ ap (union (union a (squaresTo k h l 0 t))) (squares-next j h l k t)
-    ∙ sym (union-next (union a (squaresTo k h l 0 t)) (squaresTo j h l k t) (I (k + j)))
+    ∙ sym (union-join (union a (squaresTo k h l 0 t)) (squaresTo j h l k t) (I (k + j)))
     ∙ ap₂ union (squares-more k j h l t a) (ap I p)
-    ∙ union-next a (squaresTo (k + j) h l 0 t) (I (0 + (k + j)))
+    ∙ union-join a (squaresTo (k + j) h l 0 t) (I (0 + (k + j)))
     ∙ ap (union a) (sym (squares-next (k + j) h l 0 t))
     ∙ ap (λ (n : ℕ). union a (squaresTo n h l 0 t)) (sym d)
 

@@ -7,7 +7,7 @@
 --   blocksTo m a    the pairs of a that lie in the first m blocks of 8 × 8 cells, 128 blocks to a row of blocks
 --   swapPlace k m j the place from which the bit at j comes if the bits of the mask m change places with those k places above them
 --   Heaped b f      a bit of f below place b is 1 exactly if one of the four bits of its square is: f is a full tree whose cells begin at b
---   Squeezing f q g ws
+--   Compacting f q g ws
 --                   of the first q groups of f, the g that are not all 0 are at the front of ws, which has the later groups in their places
 -- Assumes nothing: these are definitions.
 use mathlib.Core.Path.{_≡_}
@@ -18,7 +18,7 @@ use lib.ListN.{getD}
 use Rattle.book.specs.Basics.{pick}
 use Rattle.k2.specs.Bits.{digit, bitAt, bitsOf}
 use Rattle.k2.specs.PairSets.{Cells}
-use Rattle.k2.specs.Heap.{anyFour, squeezed, groups}
+use Rattle.k2.specs.Heap.{anyFour, compacted, groups}
 
 abbrev pub Together : List ℕ → ℕ → ℕ → ℕ → ℕ → Type 0
 Together ws i step count w = (d k : ℕ) → k < count → digit w d ≡ 0 → digit (getD ws (i + step * k) 0) d ≡ 0
@@ -43,7 +43,7 @@ pub record Heaped (b : ℕ) (f : ℕ → ℕ) : Type 0 where
   pub upper : (i : ℕ) → i < b → f i ≡ anyFour f (4 * (i + 1))
   pub past : (i : ℕ) → 4 * b + 4 ≤ i → f i ≡ 0
 
-pub record Squeezing (f : ℕ → ℕ) (q g : ℕ) (ws : List ℕ) : Type 0 where
+pub record Compacting (f : ℕ → ℕ) (q g : ℕ) (ws : List ℕ) : Type 0 where
   pub count : g ≡ groups f q
-  pub front : (k : ℕ) → k < 4 * g → bitAt ws k ≡ bitsOf (squeezed f q) k
+  pub front : (k : ℕ) → k < 4 * g → bitAt ws k ≡ bitsOf (compacted f q) k
   pub rest : (k : ℕ) → 4 * q ≤ k → bitAt ws k ≡ f k

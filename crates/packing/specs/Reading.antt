@@ -6,7 +6,7 @@
 --                   the pairs of a in the first k quarters, of side 2 ^ h, of the square at row x and column y
 --   WordsCounted ws ns, BlocksCounted ws ns
 --                   for each word of ws, or for each block of four, the number of ones before it
---   Counted ws ns   for each word, or if ws has more than 5,462 words for each block of four
+--   Counted ws ns   for each word, or if ws has more than mostCounts words for each block of four
 --   Reads s ws h b x y a
 --                   in a tree with the words ws, read with the sense s, the four bits from bit b on are those of the square of a set whose cells are those
 --                   of a from row x and column y on; the square has the side 2 ^ h
@@ -24,6 +24,7 @@ use Prim.Native.Nat.{ℕ, zero, suc, _+_, _*_, _/_, _%_, _^_, _≤_, _<_}
 use lib.Dec.{leb, ltb}
 use lib.ListN.{length, getD}
 use Rattle.book.specs.Basics.{pick}
+use Rattle.k2.specs.Sizes.{mostCounts, mostChildPlace}
 use Rattle.k2.specs.Bits.{bitAt, bitsOf, onesBelow}
 use Rattle.k2.specs.PairSets.{Cells, union, transpose}
 use Rattle.k2.specs.Trees.{treeBits}
@@ -52,7 +53,7 @@ abbrev pub BlocksCounted : List ℕ → List ℕ → Type 0
 BlocksCounted ws ns = (i : ℕ) → 4 * i < length ws → getD ns i 0 ≡ onesBelow (bitAt ws) (i * 256)
 
 abbrev pub Counted : List ℕ → List ℕ → Type 0
-Counted ws ns = (length ws ≤ 5462 → WordsCounted ws ns) × (5462 < length ws → BlocksCounted ws ns)
+Counted ws ns = (length ws ≤ mostCounts → WordsCounted ws ns) × (mostCounts < length ws → BlocksCounted ws ns)
 
 pub record Reads (s : ℕ) (ws : List ℕ) (h b x y : ℕ) (a : Cells) : Type 0 where
   pub side : ℕ
@@ -77,7 +78,7 @@ squaresTo zero h l i a = noPairs
 squaresTo (suc k) h l i a = union (squaresTo k h l i a) (inside h (squareRow (getD l (i + k) 0)) (squareColumn (getD l (i + k) 0)) a)
 
 abbrev pub Fits : ℕ → ℕ → Type 0
-Fits h w = (squareBit w % 4 ≡ 0) × (squareBit w ≤ 5592576) × (squareRow w + 2 ^ h ≤ 1024) × (squareColumn w + 2 ^ h ≤ 1024) × (squareColumn w % 2 ≡ 0)
+Fits h w = (squareBit w % 4 ≡ 0) × (squareBit w ≤ mostChildPlace) × (squareRow w + 2 ^ h ≤ 1024) × (squareColumn w + 2 ^ h ≤ 1024) × (squareColumn w % 2 ≡ 0)
 
 abbrev pub FitAll : ℕ → List ℕ → ℕ → ℕ → Type 0
 FitAll h l i k = (j : ℕ) → j < k → Fits h (getD l (i + j) 0)

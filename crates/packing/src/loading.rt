@@ -1,10 +1,10 @@
 // A k2-tree loaded into rows of bits: the ones of its words counted, then its squares read level by level.
 // What reading a square means is stated in specs/Reading.antt.
-use crate::measures::height;
 ghost use mathlib.Core.Path.{_≡_};
 ghost use Prim.Native.Nat.{ℕ, _+_, _-_, _/_, _%_, _^_, _<_, _≤_};
 ghost use lib.ListN.{length};
 ghost use Rattle.book.specs.Causes.{maxRecords};
+ghost use Rattle.k2.specs.Sizes.{rowsWords, mostTreeWords, mostCounts, mostChildPlace};
 ghost use Rattle.k2.specs.Bits.{digit, bitAt};
 ghost use Rattle.k2.specs.DigitLaws.{shifted};
 ghost use Rattle.k2.specs.PairSets.{Cells, IsSet, union};
@@ -15,9 +15,17 @@ ghost use Rattle.packing.specs.Senses.{sensed};
 ghost use Rattle.packing.specs.Reading.{turnedBy, turned, inside, WordsCounted, BlocksCounted, Counted, Reads, squareBit, squareRow, squareColumn};
 ghost use Rattle.packing.specs.Reading.{squaresTo, FitAll, ReadAll};
 
+// The most rows and columns. A square waits as one word: its bit, its row and its column, each times its unit.
+const SIDE: usize = book::MAX_RECORDS;
+
+const BIT_UNIT: usize = SIDE * SIDE;
+
+// So many counts of ones there are at most: one for each word of a tree, or of a long one for each block of four.
+const COUNTS: usize = 5462;
+
 // The ones before each word of a tree.
 fn count_words(tree: &[u64], before: &mut [u32])
-    requires { ⌜ (length (now tree) ≤ 5462) × (length (now before) ≡ 5462) ⌝ }
+    requires { ⌜ (length (now tree) ≤ mostCounts) × (length (now before) ≡ mostCounts) ⌝ }
     ensures { λ _. ⌜ WordsCounted (now (tree .entry)) (now (before .exit)) ⌝ }
 {
     let mut n: u32 = 0;
@@ -31,7 +39,7 @@ fn count_words(tree: &[u64], before: &mut [u32])
 
 // The ones before each block of four words of a tree.
 fn count_blocks(tree: &[u64], before: &mut [u32])
-    requires { ⌜ (length (now tree) ≤ 21846) × (length (now before) ≡ 5462) ⌝ }
+    requires { ⌜ (length (now tree) ≤ mostTreeWords) × (length (now before) ≡ mostCounts) ⌝ }
     ensures { λ _. ⌜ BlocksCounted (now (tree .entry)) (now (before .exit)) ⌝ }
 {
     let mut n: u32 = 0;
@@ -47,10 +55,10 @@ fn count_blocks(tree: &[u64], before: &mut [u32])
 
 // The ones before each word of a tree, or of a long one before each block of four: there is room for 5,462 counts.
 fn count(tree: &[u64], before: &mut [u32])
-    requires { ⌜ (length (now tree) ≤ 21846) × (length (now before) ≡ 5462) ⌝ }
+    requires { ⌜ (length (now tree) ≤ mostTreeWords) × (length (now before) ≡ mostCounts) ⌝ }
     ensures { λ _. ⌜ Counted (now (tree .entry)) (now (before .exit)) ⌝ }
 {
-    if 5462 < tree.len() {
+    if COUNTS < tree.len() {
         count_blocks(tree, before);
         return;
     }
@@ -59,8 +67,8 @@ fn count(tree: &[u64], before: &mut [u32])
 
 // Where the children of the 1 at bit p begin: four times the count of ones in bits 0 to p. From the ones before its word:
 fn child_by_word(tree: &[u64], before: &[u32], p: usize) -> usize
-    requires { ⌜ (p / 64 < length (now tree)) × (length (now tree) ≤ 5462) × (length (now before) ≡ 5462) × WordsCounted (now tree) (now before) ⌝ }
-    ensures { λ r. ⌜ (r ≡ childPlace (bitAt (now (tree .entry))) p) × (r ≤ 5592576) ⌝ }
+    requires { ⌜ (p / 64 < length (now tree)) × (length (now tree) ≤ mostCounts) × (length (now before) ≡ mostCounts) × WordsCounted (now tree) (now before) ⌝ }
+    ensures { λ r. ⌜ (r ≡ childPlace (bitAt (now (tree .entry))) p) × (r ≤ mostChildPlace) ⌝ }
 {
     let q = p / 64;
     4 * (before[q] as usize + u64::count_ones(tree[q] << (63 - p % 64)) as usize)
@@ -68,8 +76,9 @@ fn child_by_word(tree: &[u64], before: &[u32], p: usize) -> usize
 
 // From the ones before its block of four words:
 fn child_by_block(tree: &[u64], before: &[u32], p: usize) -> usize
-    requires { ⌜ (p / 64 < length (now tree)) × (length (now tree) ≤ 21846) × (length (now before) ≡ 5462) × BlocksCounted (now tree) (now before) ⌝ }
-    ensures { λ r. ⌜ (r ≡ childPlace (bitAt (now (tree .entry))) p) × (r ≤ 5592576) ⌝ }
+    requires { ⌜ (p / 64 < length (now tree)) × (length (now tree) ≤ mostTreeWords)
+        × (length (now before) ≡ mostCounts) × BlocksCounted (now tree) (now before) ⌝ }
+    ensures { λ r. ⌜ (r ≡ childPlace (bitAt (now (tree .entry))) p) × (r ≤ mostChildPlace) ⌝ }
 {
     let q = p / 64;
     let mut i = q / 4 * 4;
@@ -83,10 +92,10 @@ fn child_by_block(tree: &[u64], before: &[u32], p: usize) -> usize
 
 // From what was counted.
 fn child(tree: &[u64], before: &[u32], p: usize) -> usize
-    requires { ⌜ (p / 64 < length (now tree)) × (length (now tree) ≤ 21846) × (length (now before) ≡ 5462) × Counted (now tree) (now before) ⌝ }
-    ensures { λ r. ⌜ (r ≡ childPlace (bitAt (now (tree .entry))) p) × (r ≤ 5592576) ⌝ }
+    requires { ⌜ (p / 64 < length (now tree)) × (length (now tree) ≤ mostTreeWords) × (length (now before) ≡ mostCounts) × Counted (now tree) (now before) ⌝ }
+    ensures { λ r. ⌜ (r ≡ childPlace (bitAt (now (tree .entry))) p) × (r ≤ mostChildPlace) ⌝ }
 {
-    if 5462 < tree.len() {
+    if COUNTS < tree.len() {
         return child_by_block(tree, before, p);
     }
     child_by_word(tree, before, p)
@@ -126,12 +135,12 @@ fn or_two(words: &mut [u64], p: usize, v: u64)
 
 // The four cells of a square of side 2 at row x and column y put into rows.
 fn put_cells(rows: &mut [u64], x: usize, y: usize, v: u64)
-    requires { ⌜ (x + 2 ≤ 1024) × (y + 2 ≤ 1024) × (y % 2 ≡ 0) × (v < 16) × (length (now rows) ≡ 16384) ⌝ }
+    requires { ⌜ (x + 2 ≤ maxRecords) × (y + 2 ≤ maxRecords) × (y % 2 ≡ 0) × (v < 16) × (length (now rows) ≡ rowsWords) ⌝ }
     ensures { λ _. ⌜ ((a t : Cells) → bitAt (now (rows .entry)) ≡ flat a → ((q : ℕ) → q < 4 → digit v q ≡ t (x + q / 2) (y + q % 2))
         → bitAt (now (rows .exit)) ≡ flat (union a (inside 1 x y t))) ⌝ }
 {
-    or_two(rows, x * 1024 + y, v % 4);
-    or_two(rows, (x + 1) * 1024 + y, v / 4);
+    or_two(rows, x * SIDE + y, v % 4);
+    or_two(rows, (x + 1) * SIDE + y, v / 4);
 }
 
 // Half the side of a square.
@@ -152,10 +161,10 @@ fn next_one(v: u64, q: usize) -> usize
 
 // The square whose four bits begin at bit b, at row x and column y, as a number.
 fn square_number(b: usize, x: usize, y: usize) -> usize
-    requires { ⌜ (b ≤ 5592576) × (x < 1024) × (y < 1024) ⌝ }
+    requires { ⌜ (b ≤ mostChildPlace) × (x < maxRecords) × (y < maxRecords) ⌝ }
     ensures { λ w. ⌜ (squareBit w ≡ b) × (squareRow w ≡ x) × (squareColumn w ≡ y) ⌝ }
 {
-    b * 1048576 + x * 1024 + y
+    b * BIT_UNIT + x * SIDE + y
 }
 
 // A square as a node of the tree: the bit at which its four bits begin, its row and its column.
@@ -182,9 +191,10 @@ fn children(
     next: &mut [usize],
     m: usize,
 ) -> usize
-    requires { ⌜ (2 ≤ h) × (h ≤ 10) × (at .bit % 4 ≡ 0) × (at .bit ≤ 5592576) × (at .row + 2 ^ h ≤ 1024) × (at .column + 2 ^ h ≤ 1024) × (at .column % 2 ≡ 0)
+    requires { ⌜ (2 ≤ h) × (h ≤ 10) × (at .bit % 4 ≡ 0) × (at .bit ≤ mostChildPlace)
+        × (at .row + 2 ^ h ≤ maxRecords) × (at .column + 2 ^ h ≤ maxRecords) × (at .column % 2 ≡ 0)
         × (sense ≤ 1)
-        × (length (now tree) ≤ 21846) × (length (now before) ≡ 5462) × Counted (now tree) (now before)
+        × (length (now tree) ≤ mostTreeWords) × (length (now before) ≡ mostCounts) × Counted (now tree) (now before)
         × (m + 4 ≤ length (now next)) × FitAll (h - 1) (now next) 0 m ⌝ }
     ensures { λ r. ⌜ (r ≤ m + 4) × FitAll (h - 1) (now (next .exit)) 0 r
         × ((t : Cells) → Reads sense (now (tree .entry)) h (at .bit) (at .row) (at .column) t
@@ -218,7 +228,7 @@ fn spread(
     sense: usize,
     next: &mut [usize],
 ) -> usize
-    requires { ⌜ (2 ≤ h) × (h ≤ 10) × (sense ≤ 1) × (length (now tree) ≤ 21846) × (length (now before) ≡ 5462) × Counted (now tree) (now before)
+    requires { ⌜ (2 ≤ h) × (h ≤ 10) × (sense ≤ 1) × (length (now tree) ≤ mostTreeWords) × (length (now before) ≡ mostCounts) × Counted (now tree) (now before)
         × (part .from + part .count ≤ length (now list)) × (part .count ≤ 16) × (length (now next) ≡ 64) × FitAll h (now list) (part .from) (part .count) ⌝ }
     ensures { λ r. ⌜ (r ≤ 64) × FitAll (h - 1) (now (next .exit)) 0 r
         × ((t : Cells) → ReadAll sense (now (tree .entry)) h (now (list .entry)) (part .from) (part .count) t
@@ -232,9 +242,9 @@ fn spread(
     while i < count {
         let w = list[from + i];
         let at = Node {
-            bit: w / 1048576,
-            row: w / 1024 % 1024,
-            column: w % 1024,
+            bit: w / BIT_UNIT,
+            row: w / SIDE % SIDE,
+            column: w % SIDE,
         };
         m = children(tree, before, h, at, sense, next, m);
         i += 1;
@@ -245,7 +255,7 @@ fn spread(
 // The cells of some squares of side 2 of the list put into rows.
 fn leaves(tree: &[u64], list: &[usize], part: Part, sense: usize, rows: &mut [u64])
     requires { ⌜ (part .from + part .count ≤ length (now list)) × (part .count ≤ 16) × (sense ≤ 1)
-        × (length (now rows) ≡ 16384) × FitAll 1 (now list) (part .from) (part .count) ⌝ }
+        × (length (now rows) ≡ rowsWords) × FitAll 1 (now list) (part .from) (part .count) ⌝ }
     ensures { λ _. ⌜ ((a t : Cells) → bitAt (now (rows .entry)) ≡ flat a → ReadAll sense (now (tree .entry)) 1 (now (list .entry)) (part .from) (part .count) t
         → bitAt (now (rows .exit)) ≡ flat (union a (squaresTo (part .count) 1 (now (list .entry)) (part .from) t))) ⌝ }
 {
@@ -254,8 +264,8 @@ fn leaves(tree: &[u64], list: &[usize], part: Part, sense: usize, rows: &mut [u6
     let mut i = 0;
     while i < count {
         let w = list[from + i];
-        let v = square(tree, w / 1048576, sense);
-        put_cells(rows, w / 1024 % 1024, w % 1024, v);
+        let v = square(tree, w / BIT_UNIT, sense);
+        put_cells(rows, w / SIDE % SIDE, w % SIDE, v);
         i += 1;
     }
 }
@@ -273,7 +283,7 @@ fn taken(i: usize, m: usize) -> usize
 
 // The cells of some squares of side 2 ^ h of the list put into rows; level by level, as the places of the children of one square do not wait for those of
 // another.
-fn dive(
+fn descend(
     tree: &[u64],
     before: &[u32],
     h: usize,
@@ -282,8 +292,9 @@ fn dive(
     sense: usize,
     rows: &mut [u64],
 )
-    requires { ⌜ (1 ≤ h) × (h ≤ 10) × (sense ≤ 1) × (length (now tree) ≤ 21846) × (length (now before) ≡ 5462) × Counted (now tree) (now before)
-        × (part .from + part .count ≤ length (now list)) × (part .count ≤ 16) × (length (now rows) ≡ 16384) × FitAll h (now list) (part .from) (part .count) ⌝ }
+    requires { ⌜ (1 ≤ h) × (h ≤ 10) × (sense ≤ 1) × (length (now tree) ≤ mostTreeWords) × (length (now before) ≡ mostCounts) × Counted (now tree) (now before)
+        × (part .from + part .count ≤ length (now list)) × (part .count ≤ 16)
+        × (length (now rows) ≡ rowsWords) × FitAll h (now list) (part .from) (part .count) ⌝ }
     ensures { λ _. ⌜ ((a t : Cells) → bitAt (now (rows .entry)) ≡ flat a → ReadAll sense (now (tree .entry)) h (now (list .entry)) (part .from) (part .count) t
         → bitAt (now (rows .exit)) ≡ flat (union a (squaresTo (part .count) h (now (list .entry)) (part .from) t))) ⌝ }
 {
@@ -297,7 +308,7 @@ fn dive(
     while i < m {
         let k = taken(i, m);
         let some = Part { from: i, count: k };
-        dive(tree, before, h - 1, &next, some, sense, rows);
+        descend(tree, before, h - 1, &next, some, sense, rows);
         i += k;
     }
 }
@@ -310,20 +321,20 @@ pub enum Sense {
 
 // The pairs of a tree put into rows; with sense 1 each pair exchanged.
 fn load_by(tree: &[u64], n: usize, sense: usize, rows: &mut [u64])
-    requires { ⌜ (n ≤ maxRecords) × (length (now tree) ≤ 21846) × (sense ≤ 1) × (length (now rows) ≡ 16384) ⌝ }
+    requires { ⌜ (n ≤ maxRecords) × (length (now tree) ≤ mostTreeWords) × (sense ≤ 1) × (length (now rows) ≡ rowsWords) ⌝ }
     ensures { λ _. ⌜ ((a x : Cells) → IsSet n a → now (tree .entry) ≡ treeWords n a → bitAt (now (rows .entry)) ≡ flat x
         → bitAt (now (rows .exit)) ≡ flat (union x (turnedBy sense a))) ⌝ }
 {
-    let mut before: [u32; 5462] = [0; 5462];
+    let mut before: [u32; COUNTS] = [0; COUNTS];
     count(tree, &mut before);
     let root: [usize; 1] = [0; 1];
     let whole = Part { from: 0, count: 1 };
-    dive(tree, &before, height(n), &root, whole, sense, rows);
+    descend(tree, &before, k2::height(n), &root, whole, sense, rows);
 }
 
 // The same by its name.
 pub fn load(tree: &[u64], n: usize, sense: Sense, rows: &mut [u64])
-    requires { ⌜ (n ≤ maxRecords) × (length (now tree) ≤ 21846) × (length (now rows) ≡ 16384) ⌝ }
+    requires { ⌜ (n ≤ maxRecords) × (length (now tree) ≤ mostTreeWords) × (length (now rows) ≡ rowsWords) ⌝ }
     ensures { λ _. ⌜ ((a x : Cells) → IsSet n a → now (tree .entry) ≡ treeWords n a → bitAt (now (rows .entry)) ≡ flat x
         → bitAt (now (rows .exit)) ≡ flat (union x (sensed sense a))) ⌝ }
 {

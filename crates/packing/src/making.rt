@@ -1,23 +1,21 @@
 // Rows of bits packed into a k2-tree: the cells in the order of its last level, the levels above them, and the groups that are not empty.
-use crate::measures::full_size;
-use crate::measures::height;
-use crate::measures::tree_unit;
 ghost use mathlib.Core.Path.{_≡_};
 ghost use mathlib.Core.Bool.{true};
 ghost use Prim.Native.Nat.{ℕ, _+_, _*_, _-_, _/_, _%_, _^_, _<_, _≤_, min, max};
 ghost use lib.ListN.{length, take, getD};
 ghost use Rattle.book.specs.Causes.{maxRecords};
+ghost use Rattle.k2.specs.Sizes.{rowsWords, mostTreeBits};
 ghost use Rattle.k2.specs.Bits.{digit, bitAt, wordsOf};
 ghost use Rattle.k2.specs.DigitLaws.{shifted};
 ghost use Rattle.k2.specs.PairSets.{Cells, IsSet};
 ghost use Rattle.k2.specs.Trees.{treeBits, treeUnit, treeWords};
-ghost use Rattle.k2.specs.Heap.{fullSize, place, rowAt, columnAt, cells, anyFour, squeezed};
+ghost use Rattle.k2.specs.Heap.{fullSize, place, rowAt, columnAt, cells, anyFour, compacted};
 ghost use Rattle.bits.specs.BitSets.{none, either};
 ghost use Rattle.rows.specs.Rows.{flat};
-ghost use Rattle.packing.specs.Image.{Together, raised, above, setFour, blocksTo, swapPlace, Heaped, Squeezing};
+ghost use Rattle.packing.specs.Image.{Together, raised, above, setFour, blocksTo, swapPlace, Heaped, Compacting};
 
 // The place of a row and a column among the cells of a square of side 2 ^ h.
-fn place(h: usize, x: usize, y: usize) -> usize
+fn morton_place(h: usize, x: usize, y: usize) -> usize
     requires { ⌜ h ≤ 10 ⌝ }
     ensures { λ z. ⌜ (z ≡ place h (x % 2 ^ h) (y % 2 ^ h)) × (z < 4 ^ h) ⌝ }
 {
@@ -67,13 +65,13 @@ fn swap(w: u64, k: u32, m: u64) -> u64
     (w & !(m | (m << k))) | ((w & m) << k) | ((w >> k) & m)
 }
 
-// The bits of 8 x 8 cells, from row by row to the order of a tree's last level.
+// The bits of 8 x 8 cells, from row by row to the order of a tree's last level, which is Morton order: bits are exchanged by swaps under masks.
 fn shuffle(w: u64) -> u64
     ensures { λ r. ⌜ ((j : ℕ) → j < 64 → digit r j ≡ digit w (8 * rowAt 3 j + columnAt 3 j)) ⌝ }
 {
-    let a = swap(w, 12, 264913582878960);
-    let b = swap(a, 4, 67555025218437360);
-    swap(b, 2, 868082074056920076)
+    let a = swap(w, 12, 0x0000_F0F0_0000_F0F0);
+    let b = swap(a, 4, 0x00F0_00F0_00F0_00F0);
+    swap(b, 2, 0x0C0C_0C0C_0C0C_0C0C)
 }
 
 // The bits of v put in from p on, beside what is there.
@@ -89,8 +87,8 @@ fn or_word(words: &mut [u64], p: usize, v: u64)
 
 // The cells of the block of 8 x 8 in row r and column c of blocks, put in from bit base on; `seen` are the bits that its rows have.
 fn fill_block(rows: &[u64], seen: u64, r: usize, c: usize, g: usize, base: usize, heap: &mut [u64])
-    requires { ⌜ (g ≤ 7) × (r < 2 ^ g) × (c < 128) × (length (now rows) ≡ 16384)
-        × (base ≤ 1398100) × (base / 64 + 4 ^ g < length (now heap)) × Together (now rows) (r * 128 + c / 8) 16 8 seen ⌝ }
+    requires { ⌜ (g ≤ 7) × (r < 2 ^ g) × (c < 128) × (length (now rows) ≡ rowsWords)
+        × (base ≤ mostTreeBits) × (base / 64 + 4 ^ g < length (now heap)) × Together (now rows) (r * 128 + c / 8) 16 8 seen ⌝ }
     ensures { λ _. ⌜ ((a : Cells) → IsSet (2 ^ (g + 3)) a → bitAt (now (rows .entry)) ≡ flat a
         → bitAt (now (heap .entry)) ≡ raised base (cells (g + 3) (blocksTo (r * 128 + c) a))
         → bitAt (now (heap .exit)) ≡ raised base (cells (g + 3) (blocksTo (r * 128 + c + 1) a))) ⌝ }
@@ -100,15 +98,15 @@ fn fill_block(rows: &[u64], seen: u64, r: usize, c: usize, g: usize, base: usize
     }
     let v = block(rows, r * 128 + c / 8, c % 8);
     if v != 0 {
-        let z = place(g, r, c);
+        let z = morton_place(g, r, c);
         or_word(heap, base + 64 * z, shuffle(v));
     }
 }
 
 // The cells of eight blocks from column c on, a multiple of 8; if all are empty they are passed at once.
 fn fill_eight(rows: &[u64], r: usize, c: usize, g: usize, base: usize, heap: &mut [u64])
-    requires { ⌜ (g ≤ 7) × (r < 2 ^ g) × (c < 128) × (c % 8 ≡ 0) × (length (now rows) ≡ 16384)
-        × (base ≤ 1398100) × (base / 64 + 4 ^ g < length (now heap)) ⌝ }
+    requires { ⌜ (g ≤ 7) × (r < 2 ^ g) × (c < 128) × (c % 8 ≡ 0) × (length (now rows) ≡ rowsWords)
+        × (base ≤ mostTreeBits) × (base / 64 + 4 ^ g < length (now heap)) ⌝ }
     ensures { λ _. ⌜ ((a : Cells) → IsSet (2 ^ (g + 3)) a → bitAt (now (rows .entry)) ≡ flat a
         → bitAt (now (heap .entry)) ≡ raised base (cells (g + 3) (blocksTo (r * 128 + c) a))
         → bitAt (now (heap .exit)) ≡ raised base (cells (g + 3) (blocksTo (r * 128 + c + 8) a))) ⌝ }
@@ -125,8 +123,8 @@ fn fill_eight(rows: &[u64], r: usize, c: usize, g: usize, base: usize, heap: &mu
 
 // The cells of rows put in from bit base on, by blocks of 8 x 8, 2 ^ g of them to a side.
 fn fill(rows: &[u64], g: usize, base: usize, heap: &mut [u64])
-    requires { ⌜ (g ≤ 7) × (length (now rows) ≡ 16384)
-        × (base ≤ 1398100) × (base / 64 + 4 ^ g < length (now heap)) ⌝ }
+    requires { ⌜ (g ≤ 7) × (length (now rows) ≡ rowsWords)
+        × (base ≤ mostTreeBits) × (base / 64 + 4 ^ g < length (now heap)) ⌝ }
     ensures { λ _. ⌜ ((a : Cells) → IsSet (2 ^ (g + 3)) a → bitAt (now (rows .entry)) ≡ flat a → bitAt (now (heap .entry)) ≡ none
         → bitAt (now (heap .exit)) ≡ raised base (cells (g + 3) a)) ⌝ }
 {
@@ -142,20 +140,20 @@ fn fill(rows: &[u64], g: usize, base: usize, heap: &mut [u64])
     }
 }
 
-// The sixteen bits that tell which groups of four bits of a word are not all 0.
+// The sixteen bits that tell which groups of four bits of a word are not all 0: the lowest bit of each group, then spread bits pressed together.
 fn summary(w: u64) -> u64
     ensures { λ r. ⌜ ((j : ℕ) → digit r j ≡ anyFour (digit w) (4 * j)) ⌝ }
 {
     let a = w | w >> 1;
-    let b = (a | a >> 2) & 1229782938247303441;
-    let c = (b | b >> 3) & 217020518514230019;
-    let d = (c | c >> 6) & 4222189076152335;
-    let e = (d | d >> 12) & 1095216660735;
-    (e | e >> 24) & 65535
+    let b = (a | a >> 2) & 0x1111_1111_1111_1111;
+    let c = (b | b >> 3) & 0x0303_0303_0303_0303;
+    let d = (c | c >> 6) & 0x000F_000F_000F_000F;
+    let e = (d | d >> 12) & 0x0000_00FF_0000_00FF;
+    (e | e >> 24) & 0xFFFF
 }
 
 // Are there four words from word i on, all 0?
-fn quiet(words: &[u64], i: usize) -> bool
+fn all_zero(words: &[u64], i: usize) -> bool
     ensures { λ r. ⌜ (r ≡ true → (i + 4 ≤ length (now (words .entry))) × ((k : ℕ) → i ≤ k → k < i + 4 → getD (now (words .entry)) k 0 ≡ 0)) ⌝ }
 {
     if words.len() < 4 {
@@ -201,7 +199,7 @@ fn lift(heap: &mut [u64])
 {
     let mut i = heap.len();
     while 1 < i {
-        if 5 < i && quiet(heap, i - 4) {
+        if 5 < i && all_zero(heap, i - 4) {
             i -= 4;
         } else {
             i -= 1;
@@ -222,9 +220,9 @@ fn set_four(words: &mut [u64], g: usize, v: u64)
 }
 
 // The groups of word i that are not all 0, put behind the g groups that are at the front.
-fn squeeze_word(heap: &mut [u64], i: usize, g: usize) -> usize
+fn compact_word(heap: &mut [u64], i: usize, g: usize) -> usize
     requires { ⌜ (i < length (now heap)) × (g ≤ 16 * i) ⌝ }
-    ensures { λ r. ⌜ (r ≤ 16 * (i + 1)) × ((f : ℕ → ℕ) → Squeezing f (16 * i) g (now (heap .entry)) → Squeezing f (16 * (i + 1)) r (now (heap .exit))) ⌝ }
+    ensures { λ r. ⌜ (r ≤ 16 * (i + 1)) × ((f : ℕ → ℕ) → Compacting f (16 * i) g (now (heap .entry)) → Compacting f (16 * (i + 1)) r (now (heap .exit))) ⌝ }
 {
     let mut r = g;
     let mut w = heap[i];
@@ -251,18 +249,18 @@ fn trim(heap: &mut [u64], g: usize)
 }
 
 // The groups of four bits that are not all 0, in order; how many words they fill, the unused bits of the last being 0.
-fn squeeze(heap: &mut [u64]) -> usize
+fn compact(heap: &mut [u64]) -> usize
     requires { ⌜ length (now heap) ≤ 21847 ⌝ }
     ensures { λ r. ⌜ (r ≤ length (now (heap .entry)))
-        × (take r (now (heap .exit)) ≡ wordsOf (squeezed (bitAt (now (heap .entry))) (16 * length (now (heap .entry))))) ⌝ }
+        × (take r (now (heap .exit)) ≡ wordsOf (compacted (bitAt (now (heap .entry))) (16 * length (now (heap .entry))))) ⌝ }
 {
     let mut g = 0;
     let mut i = 0;
     while i < heap.len() {
-        if quiet(heap, i) {
+        if all_zero(heap, i) {
             i += 4;
         } else {
-            g = squeeze_word(heap, i, g);
+            g = compact_word(heap, i, g);
             i += 1;
         }
     }
@@ -283,23 +281,23 @@ fn block_levels(h: usize) -> usize
 
 // The tree of rows, made in place; how many words it has.
 fn pack_part(rows: &[u64], h: usize, heap: &mut [u64]) -> usize
-    requires { ⌜ (length (now rows) ≡ 16384) × (1 ≤ h) × (h ≤ 10) × (length (now heap) ≡ (fullSize h 1 + 63) / 64 + 1) ⌝ }
+    requires { ⌜ (length (now rows) ≡ rowsWords) × (1 ≤ h) × (h ≤ 10) × (length (now heap) ≡ (fullSize h 1 + 63) / 64 + 1) ⌝ }
     ensures { λ r. ⌜ (r ≤ length (now (heap .entry))) × ((a : Cells) → IsSet (2 ^ h) a → bitAt (now (rows .entry)) ≡ flat a
         → take r (now (heap .exit)) ≡ wordsOf (treeBits h a)) ⌝ }
 {
     bits::clear(heap);
-    fill(rows, block_levels(h), full_size(h - 1), heap);
+    fill(rows, block_levels(h), k2::full_size(h - 1), heap);
     lift(heap);
-    squeeze(heap)
+    compact(heap)
 }
 
 // The tree of rows, at the front of out; how many words it has. D + 1 words of out are written.
 pub fn pack(rows: &[u64], n: usize, out: &mut [u64]) -> usize
-    requires { ⌜ (length (now rows) ≡ 16384) × (n ≤ maxRecords) × (treeUnit n + 1 ≤ length (now out)) ⌝ }
+    requires { ⌜ (length (now rows) ≡ rowsWords) × (n ≤ maxRecords) × (treeUnit n + 1 ≤ length (now out)) ⌝ }
     ensures { λ r. ⌜ (r ≤ length (now (out .entry))) × ((a : Cells) → IsSet n a → bitAt (now (rows .entry)) ≡ flat a
         → (take r (now (out .exit)) ≡ treeWords n a) × (r ≤ treeUnit n)) ⌝ }
 {
-    let h = height(n);
-    let end = tree_unit(n) + 1;
+    let h = k2::height(n);
+    let end = k2::tree_unit(n) + 1;
     pack_part(rows, h, &mut out[..end])
 }

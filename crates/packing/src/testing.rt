@@ -2,7 +2,6 @@
 use crate::loading::Sense;
 use crate::loading::load;
 use crate::making::pack;
-use crate::measures::tree_unit;
 ghost use mathlib.Core.Path.{_≡_};
 ghost use mathlib.Core.Bool.{true};
 ghost use Prim.Native.Nat.{_≤_};
@@ -36,10 +35,10 @@ pub fn well_formed(tree: &[u64], n: usize) -> bool
     if tree.len() == 0 {
         return true;
     }
-    if tree_unit(n) < tree.len() {
+    if k2::tree_unit(n) < tree.len() {
         return false;
     }
-    let mut rows: [u64; 16384] = [0; 16384];
+    let mut rows: [u64; k2::ROWS_WORDS] = [0; k2::ROWS_WORDS];
     load(tree, n, Sense::Plain, &mut rows);
     if !rows::within(&rows, n) {
         return false;

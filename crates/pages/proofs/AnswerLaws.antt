@@ -7,12 +7,11 @@
 -- Assumes nothing.
 use mathlib.Core.Path.{_≡_, refl, sym, ap, subst, _∙_}
 use mathlib.Core.List.{List}
-use Prim.Native.Nat.{ℕ, _*_, _/_, _%_, _≤_, _<_}
+use Prim.Native.Nat.{ℕ, _/_, _≤_, _<_}
 use native.Mathlib.Omega.{arith}
-use lib.ListN.{length, take}
-use Rattle.book.specs.Book.{Book}
-use Rattle.k2.specs.Bits.{bitAt}
-use Rattle.k2.specs.PairSets.{IsSet}
+use lib.ListN.{length}
+use Rattle.book.specs.BookLaws.{caused-positive}
+use Rattle.k2.specs.PairSets.{Cells}
 use Rattle.paths.specs.Expressions.{Expr}
 use Rattle.paths.specs.Grammar.{Verdict, accepted, long, outside, large}
 use Rattle.paths.specs.Chains.{asked}
@@ -27,58 +26,47 @@ use Rattle.answers.specs.declared.Counted.the-variants.{Count, Refused}
 use Rattle.paths.specs.Questions.{Outcome, refused, over, listAfter, countOf, Tells}
 use Rattle.reader.specs.Reads.{readAnswer}
 use Rattle.reader.specs.declared.Answer.the-variants.{Accepted as Read, Refused as Faulty}
-use Rattle.register.specs.Representation.{Represents}
 use Rattle.register.specs.declared.Register.{Register}
-use Rattle.rows.specs.Rows.{flat, pairsIn}
-use Rattle.rows.specs.RowLaws.{places-gap, pairs-in}
-use Rattle.query.specs.Asking.{rowWords, relationAnswer, RelatesFor}
+use Rattle.rows.specs.Rows.{flat}
+use Rattle.rowpairs.specs.Evaluation.{Relating}
+use Rattle.rowpairs.specs.RelatingLaws.{relating-refused, relating-made}
+use Rattle.rowpairs.specs.declared.Related.{Related}
 use Rattle.query.specs.AskingLaws.{handed-tells, whole-contained}
 use Rattle.pages.specs.Pages.{pages}
 use Rattle.pages.specs.PageCalls.{printOutcome, Prints, Content, listing, nothing, are-pages, no-pages, readOutcome, ReadsPages}
-use Rattle.pages.specs.PageCallLaws.{tells-number, Asked, asked-enough, print-refused, print-asked, read-refused, read-broken, read-short}
+use Rattle.pages.specs.PageCallLaws.{asked-enough, print-refused, print-asked, read-refused, read-broken, read-short}
 use Rattle.pages.specs.PageCallLaws.{read-filled}
-use Rattle.pages.specs.Lines.{wordsBefore, Judged, good, bad}
+use Rattle.pages.specs.Lines.{held, pairsHeld, wordsBefore, Judged, good, bad}
+use Rattle.pages.proofs.LayoutLaws.{held-listed}
 use Rattle.pages.specs.declared.Judgement.{Judgement}
 use Rattle.pages.specs.declared.Judgement.the-variants.{Listing, Broken}
 
 -- ---- printing
--- the pairs of all rows are those of the rows below n
-all-rows : (b : Book) (r : Register) (e : Expr) (rows : List ℕ) → Represents r b → bitAt rows ≡ flat (cells (asked b) e) → pairsIn 1024 rows ≡ pairs (asked b) e
-unfolding pairs asked flat
-all-rows b r e rows R m =
-    let n : b .n ≤ 1024 = omega (arith, R .size, R .ranged .size) in
-    let S : IsSet (b .n) (cells (asked b) e) = cells-set (asked b) (fit-inside b (R .sheet .fit)) e in
-    places-gap (bitAt rows) (b .n * 1024) 1048576 (omega arith) (λ k l h. ap (λ (f : ℕ → ℕ). f k) m ∙ S .row (k / 1024) (k % 1024) (omega arith))
-    ∙ pairs-in (b .n) (cells (asked b) e) n S rows m
-
-module _ (r : Register) (text : List ℕ) (work : ℕ) (none rows before : List ℕ) (wide : length none ≡ rowWords) where
-  pub prints-refused : {k : ℕ} {q : Counted} → q ≡ Refused k → RelatesFor r (verdict text) work none rows q → Prints r text work before before (Refused k)
+module _ (r : Register) (text : List ℕ) (work : ℕ) (ws before : List ℕ) {q : Related} (A : Relating r (verdict text) work ws q) where
+  pub prints-refused : {k : ℕ} → q .answer ≡ Refused k → Prints r text work before before (Refused k)
   unfolding counted countOf listAfter
-  prints-refused {k} {q} e A = record {
-    contained = contained-refused (length before) 0 before before k (A .contained .caused k e) refl;
+  prints-refused {k} e = record {
+    contained = contained-refused (length before) 0 before before k (A .leaves .caused k e) refl;
     book = λ b R.
         let o : printOutcome b text work (length before) ≡ refused k =
-        print-refused b text work (length before) k (verdict text) refl
-        (tells-number _ e (subst (λ (i : ℕ). q ≡ countOf (relationAnswer b (verdict text) work i)) wide (A .book b R .answer))) in
+        print-refused b text work (length before) k (verdict text) refl (relating-refused A b R e) (caused-positive (A .leaves .caused k e)) in
         record { answer = rw o refl; list = rw o refl };
   }
 
-  laid-book : (b : Book) (e : Expr) → verdict text ≡ accepted e → Asked b (verdict text) work → {ws after : List ℕ} {a : Counted}
-      → ws ≡ pairs (asked b) e → Whole (pages text ws) before after a → Tells (printOutcome b text work (length before)) before after a
-  laid-book b e v q {ws} {after} {a} w L =
-      subst (λ (o : Outcome). Tells o before after a) (sym (print-asked b text work (length before) e v (q .enough)))
-      (handed-tells _ (subst (λ (l : List ℕ). Whole (pages text l) before after a) w L))
-
-  pub prints-laid : {t : ℕ} {q : Counted} {after : List ℕ} {a : Counted}
-      → q ≡ Count t → take rowWords rows ≡ rows → RelatesFor r (verdict text) work none rows q
-      → Whole (pages text (pairsIn 1024 rows)) before after a → Prints r text work before after a
-  prints-laid {t} {q} {after} {a} d whole A L = record {
+  pub prints-laid : {n : ℕ} {after : List ℕ} {a : Counted} → q .answer ≡ Count n
+      → Whole (pages text (pairsHeld (held ws (q .masks) n))) before after a → Prints r text work before after a
+  unfolding pairs asked
+  prints-laid {n} {after} {a} d L = record {
     contained = whole-contained L;
     book = λ b R.
-        let B = A .book b R in
-        let s = asked-enough b (verdict text) work t d (subst (λ (i : ℕ). q ≡ countOf (relationAnswer b (verdict text) work i)) wide (B .answer)) in
-        let m : bitAt rows ≡ flat (cells (asked b) (s .syntax)) = ap bitAt (sym whole) ∙ B .rows (s .syntax) (s .is) t d in
-        laid-book b (s .syntax) (s .is) s (all-rows b r (s .syntax) rows R m) L;
+        let B = A .leaves .book b R in
+        let s = asked-enough b (verdict text) work (sym (relating-made A b R d)) in
+        let w : pairsHeld (held ws (q .masks) n) ≡ pairs (asked b) (s .syntax) =
+        ap (λ (c : Cells). pairsHeld (flat c)) (B .value (s .syntax) (s .is) n d)
+        ∙ held-listed (b .n) (cells (asked b) (s .syntax)) (omega (arith, R .size, R .ranged .size))
+        (cells-set (asked b) (fit-inside b (R .sheet .fit)) (s .syntax)) in
+        subst (λ (o : Outcome). Tells o before after a) (sym (print-asked b text work (length before) (s .syntax) (s .is) (s .enough)))
+        (handed-tells _ (subst (λ (l : List ℕ). Whole (pages text l) before after a) w L));
   }
 
 -- ---- reading

@@ -1,19 +1,30 @@
--- Laws of laying the pages out: a line from the rows' pairs that are ahead, and how many bytes all take. Assumes nothing.
-use mathlib.Core.Path.{_≡_, refl, sym, ap, subst, _∙_}
+-- Laws of laying the pages out: a line from the pairs that are ahead, and how many bytes all take.
+--   laid-head, laid-pairs  a head is laid, or the line of the pairs that were gathered
+--   all-ahead, all-within, all-few, all-length
+--                          all pair words are ahead of 0; they ascend, below the last; so many at the most; the bytes of their pages
+--   held-listed            the pair words of a set are its pairs
+--   count-held             so many a relation has
+-- Assumes nothing.
+use mathlib.Core.Path.{_≡_, refl, sym, ap, subst, _∙_, fun-ext}
 use mathlib.Core.List.{List, _++_, append-nil}
 use Prim.Native.Nat.{ℕ, zero, suc, _+_, _-_, _*_, _/_, _%_, _≤_, _<_}
 use native.Mathlib.Decide.{decLt}
 use native.Mathlib.Omega.{arith}
 use lib.ListN.{length, take, drop, drop-of-length-le}
 use lib.Seq.{take-at, drop-at, take-all, drop-drop, length-take-le}
-use Rattle.k2.specs.Bits.{bitAt}
-use Rattle.k2.specs.PairSets.{ifSet}
+use Rattle.k2.specs.Bits.{bitAt, packed}
+use Rattle.k2.specs.BitLaws.{bit-out, packed-bits, packed-length}
+use Rattle.k2.specs.PairSets.{Cells, IsSet, ifSet, listed}
 use Rattle.k2.specs.PairSetLaws.{Within, ends, goes, within-append, within-length}
-use Rattle.rows.specs.Rows.{pairsIn}
+use Rattle.rows.specs.Rows.{flat, places}
+use Rattle.rows.specs.RowLaws.{places-gap, pairs-in}
+use Rattle.paths.specs.Questions.{rowWidth}
+use Rattle.grid.specs.GridLaws.{first-set}
+use Rattle.rowpairs.specs.Evaluation.{relationIn}
 use Rattle.answers.specs.Written.{Wrote}
 use Rattle.answers.specs.WrittenLaws.{wrote-as}
 use Rattle.pages.specs.Pages.{pairLine, headLine, pages}
-use Rattle.pages.specs.Lines.{pairWords, mostLines, linesOf, pairsBefore, lineOf, ahead, Gathered, Laid}
+use Rattle.pages.specs.Lines.{pairWords, mostLines, held, pairsHeld, linesOf, pairsBefore, lineOf, ahead, Gathered, Laid}
 use Rattle.pages.specs.LineLaws.{line-head, line-pairs, length-head-line, length-pair-line, length-pages}
 use Rattle.pages.specs.ReadLaws.{before-head, before-pairs, within-small}
 use Rattle.pages.proofs.WritingLaws.{small-take}
@@ -85,14 +96,36 @@ ahead-within f p (suc d) =
     go zero W = within-append (ends {m = p} {t = suc p} (omega arith)) W
     go (suc v) W = goes {m = p} {w = p} (omega arith) W
 
-pub rows-ahead : (rows : List ℕ) → pairsIn 1024 rows ≡ ahead (bitAt rows) 0 pairWords
-rows-ahead rows = places-all (bitAt rows) 1048576 refl
+module _ (f : ℕ → ℕ) where
+  pub all-ahead : pairsHeld f ≡ ahead f 0 pairWords
+  all-ahead = places-all f 1048576 refl
 
-pub rows-within : (rows : List ℕ) → Within 0 (pairsIn 1024 rows) pairWords
-rows-within rows = subst (λ (l : List ℕ). Within 0 l pairWords) (sym (rows-ahead rows)) (ahead-within (bitAt rows) 0 pairWords)
+  pub all-within : Within 0 (pairsHeld f) pairWords
+  all-within = subst (λ (l : List ℕ). Within 0 l pairWords) (sym all-ahead) (ahead-within f 0 pairWords)
 
-pub rows-few : (rows : List ℕ) → length (pairsIn 1024 rows) ≤ pairWords
-rows-few rows = omega (arith, within-length (rows-within rows))
+  pub all-few : length (pairsHeld f) ≤ pairWords
+  all-few = omega (arith, within-length all-within)
 
-pub rows-length : (text rows : List ℕ) → length (pages text (pairsIn 1024 rows)) ≡ 73 * linesOf (length (pairsIn 1024 rows))
-rows-length text rows = length-pages text (pairsIn 1024 rows) (within-small (pairsIn 1024 rows) (rows-within rows)) (rows-few rows)
+  pub all-length : (text : List ℕ) → length (pages text (pairsHeld f)) ≡ 73 * linesOf (length (pairsHeld f))
+  all-length text = length-pages text (pairsHeld f) (within-small (pairsHeld f) all-within) all-few
+
+-- the pair words of a set are its pairs
+pub held-listed : (n : ℕ) (a : Cells) → n ≤ 1024 → IsSet n a → pairsHeld (flat a) ≡ listed n a
+unfolding flat
+held-listed n a small A =
+    places-gap (flat a) (n * 1024) 1048576 (omega arith) (λ k l h. A .row (k / 1024) (k % 1024) (omega arith))
+    ∙ ap (λ (f : ℕ → ℕ). places f (n * 1024)) (sym rows) ∙ pairs-in n a small A (packed 16384 (flat a)) rows
+  where
+    bits : (k : ℕ) → flat a k < 2
+    bits k = A .bit (k / 1024) (k % 1024)
+
+    at : (k : ℕ) → Dec (k < 1048576) → bitAt (packed 16384 (flat a)) k ≡ flat a k
+    at k (yes h) = packed-bits 16384 (flat a) k bits h
+    at k (no h) =
+        bit-out (packed 16384 (flat a)) k (rw (packed-length 16384 (flat a)) (omega arith)) ∙ sym (A .row (k / 1024) (k % 1024) (omega arith))
+
+    rows : bitAt (packed 16384 (flat a)) ≡ flat a
+    rows = fun-ext (λ k. at k (decLt k 1048576))
+
+pub count-held : (ws ms : List ℕ) (n : ℕ) → n ≤ 1024 → length (listed n (relationIn ws ms n)) ≡ length (pairsHeld (held ws ms n))
+count-held ws ms n small = ap length (sym (held-listed n (relationIn ws ms n) small (first-set n (rowWidth n) ws ms)))

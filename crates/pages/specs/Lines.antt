@@ -7,6 +7,8 @@
 --   lineWith text i ws   line i, the first being 0, if it shows the pair words ws: every sixtieth is a head
 --   lineOf text ws i     line i of the pages of ws
 --   ahead f p d          the places from p to p + d - 1 at which f is not 0, ascending
+--   held ws ms n         whether each pair word is one of the relation of n records in the words ws with the masks ms
+--   pairsHeld f          the pair words at which f is not 0, ascending
 --   value bs             the number whose figures are bs: a figure's lowest four bits are the figure, and a blank's are 0
 --   cellWord t           the pair word in the figures of the cell at the front of t
 --   cellWords f t        the pair words of the cells at the front of t, up to a blank one, at most f
@@ -36,6 +38,8 @@ use lib.ListN.{length, take, drop, getD}
 use Rattle.book.specs.Basics.{pick}
 use Rattle.k2.specs.PairSets.{ifSet}
 use Rattle.k2.specs.PairSetLaws.{Within}
+use Rattle.rows.specs.Rows.{flat, places}
+use Rattle.rowpairs.specs.Evaluation.{relationIn}
 use Rattle.report.specs.Report.{space}
 use Rattle.answers.specs.Written.{Wrote}
 use Rattle.pages.specs.Pages.{joined, parts, linePairs, pagePairs, recordWidth, pairLine, headLine, IsPages}
@@ -69,6 +73,12 @@ lineOf text ws i = lineWith text i (take linePairs (drop (pairsBefore i) ws))
 unfoldable pub ahead : (ℕ → ℕ) → ℕ → ℕ → List ℕ
 ahead f p zero = []
 ahead f p (suc d) = ifSet (f p) p ++ ahead f (suc p) d
+
+abbrev pub held : (ws ms : List ℕ) → (n : ℕ) → ℕ → ℕ
+held ws ms n = flat (relationIn ws ms n)
+
+abbrev pub pairsHeld : (ℕ → ℕ) → List ℕ
+pairsHeld f = places f pairWords
 
 unfoldable pub valueFrom : ℕ → List ℕ → ℕ
 valueFrom v [] = v

@@ -1,8 +1,7 @@
 -- Laws of the two calls: which outcome it is, by the verdict, the lent lengths and what the bytes hold.
---   tells-number         the number of a refused question
---   Asked, asked-enough  what is so where a relation's pairs are told
---   print-asked, print-short, print-filled
---                        the pages handed over whole: 13, or the pages
+--   Asked, asked-enough  what is so where a pair question is not refused
+--   print-little, print-asked, print-short, print-filled
+--                        12; the pages handed over whole: 13, or the pages
 --   print-refused        refused as the pair question is
 --   print-in-order, read-in-order
 --                        the causes stand in their order
@@ -18,6 +17,7 @@ use native.Mathlib.Omega.{arith}
 use borrow.Author.Tests.{lt-ltb, le-ltb}
 use lib.Dec.{ltb}
 use lib.ListN.{length}
+use Rattle.book.specs.Basics.{pick}
 use Rattle.book.specs.Causes.{short-work, short-list, questionOrder, number, firstNumber, InOrder, none-left, same-cause, passed-over}
 use Rattle.book.specs.Book.{Book}
 use Rattle.k2.specs.Trees.{treeUnit}
@@ -26,54 +26,35 @@ use Rattle.paths.specs.Grammar.{Verdict, accepted, long, outside, large, verdic
 use Rattle.paths.specs.Chains.{asked}
 use Rattle.paths.specs.Relations.{pairs}
 use Rattle.paths.specs.Verdicts.{verdict}
-use Rattle.answers.specs.declared.Counted.{Counted}
-use Rattle.answers.specs.declared.Counted.the-variants.{Count, Refused}
-use Rattle.paths.specs.Questions.{Outcome, refused, paired, replied, unless, pairsOf, pairsCauses, countOf}
+use Rattle.paths.specs.Questions.{by-trees, refused, unless, pairsOf, pairsCauses}
 use Rattle.reader.specs.Reads.{readAnswer}
 use Rattle.reader.specs.declared.Answer.the-variants.{Refused as Faulty}
-use Rattle.query.specs.Asking.{rowWords, relationAnswer, relationCauses}
-use Rattle.query.specs.AskingLaws.{relation-short, relation-paired}
 use Rattle.pages.specs.Pages.{pages}
 use Rattle.pages.specs.PageCalls.{filled, printCauses, printOutcome, Content, listing, nothing, wordsIn, isNothing, readOrder, readCauses}
 use Rattle.pages.specs.PageCalls.{readOutcome}
 
 -- ---- printing
-pub tells-number : (o : Outcome) {a : Counted} {k : ℕ} → a ≡ Refused k → a ≡ countOf o → o ≡ refused k
-unfolding countOf
-tells-number (refused j) {k = k} e T = let z : j ≡ k = cc in ap refused z
-tells-number (paired t ws) e T = absurd (let z : _≡_ {A = ℕ} 0 1 = cc in omega arith)
-tells-number (replied t) e T = absurd (let z : _≡_ {A = ℕ} 0 1 = cc in omega arith)
-
 pub record Asked (b : Book) (v : Verdict) (work : ℕ) : Type 0 where
   pub syntax : Expr
   pub is : v ≡ accepted syntax
   pub enough : 32 * treeUnit (b .n) ≤ work
 
-tells-pairs : {o : Outcome} {a : Counted} {t k : ℕ} → a ≡ Count t → a ≡ countOf o → o ≡ refused k → ⊥
-unfolding countOf
-tells-pairs {t = t} {k} e T q = let y : Count t ≡ Refused k = sym e ∙ T ∙ ap countOf q in let z : _≡_ {A = ℕ} 0 1 = cc in omega arith
-
--- where the pairs of a relation are told, the text is an expression and the work enough
-pub asked-enough : (b : Book) (v : Verdict) (work t : ℕ) {a : Counted} → a ≡ Count t → a ≡ countOf (relationAnswer b v work rowWords) → Asked b v work
-unfolding relationAnswer relationCauses verdictCause firstNumber number
-asked-enough b (accepted e) work t q T = go (decLt work (32 * treeUnit (b .n)))
+-- where a pair question has no cause against it, the text is an expression and the work enough
+pub asked-enough : (b : Book) (v : Verdict) (work : ℕ) → firstNumber (pairsCauses by-trees b v work) ≡ 0 → Asked b v work
+unfolding pairsCauses verdictCause firstNumber number
+asked-enough b (accepted e) work q = go (decLt work (32 * treeUnit (b .n)))
   where
     go : Dec (work < 32 * treeUnit (b .n)) → Asked b (accepted e) work
-    go (yes h) = absurd (tells-pairs q T (relation-short b work rowWords e h))
+    go (yes h) =
+        absurd (let z : _≡_ {A = ℕ} (pick (ltb work (32 * treeUnit (b .n))) 12 0) 12 = rw (lt-ltb work (32 * treeUnit (b .n)) h) refl in omega (arith, q, z))
     go (no h) = record { syntax = e; is = refl; enough = omega arith }
-asked-enough b long work t q T = absurd (tells-pairs q T refl)
-asked-enough b outside work t q T = absurd (tells-pairs q T refl)
-asked-enough b large work t q T = absurd (tells-pairs q T refl)
-
-number-same : {j k : ℕ} → refused j ≡ refused k → j ≡ k
-number-same e = cc
-
-paired-refused : {t k : ℕ} {ws : List ℕ} → paired t ws ≡ refused k → ⊥
-paired-refused e = let z : _≡_ {A = ℕ} 0 1 = cc in omega arith
+asked-enough b long work q = absurd (let z : _≡_ {A = ℕ} 10 0 = q in omega arith)
+asked-enough b outside work q = absurd (let z : _≡_ {A = ℕ} 9 0 = q in omega arith)
+asked-enough b large work q = absurd (let z : _≡_ {A = ℕ} 10 0 = q in omega arith)
 
 module _ (b : Book) (text : List ℕ) (work room : ℕ) where
   module _ (e : Expr) (v : verdict text ≡ accepted e) where
-    print-little : work < 32 * treeUnit (b .n) → printOutcome b text work room ≡ refused 12
+    pub print-little : work < 32 * treeUnit (b .n) → printOutcome b text work room ≡ refused 12
     unfolding printOutcome printCauses pairsCauses verdictCause firstNumber number
     print-little h = rw (v, lt-ltb work (32 * treeUnit (b .n)) h)
 
@@ -91,17 +72,22 @@ module _ (b : Book) (text : List ℕ) (work room : ℕ) where
       unfolding firstNumber number
       print-filled l = print-asked ∙ rw (le-ltb room (length (pages text (pairs (asked b) e))) l)
 
-  -- printing is refused as the relation is
-  pub print-refused : (k : ℕ) (v : Verdict) → verdict text ≡ v → relationAnswer b v work rowWords ≡ refused k → printOutcome b text work room ≡ refused k
-  unfolding relationAnswer relationCauses printOutcome printCauses pairsCauses verdictCause firstNumber number
-  print-refused k long v q = let z : 10 ≡ k = number-same q in rw v (ap refused z)
-  print-refused k outside v q = let z : 9 ≡ k = number-same q in rw v (ap refused z)
-  print-refused k large v q = let z : 10 ≡ k = number-same q in rw v (ap refused z)
-  print-refused k (accepted e) v q = go (decLt work (32 * treeUnit (b .n)))
+  -- printing is refused as the pair question is
+  pub print-refused : (k : ℕ) (v : Verdict) → verdict text ≡ v
+      → k ≡ firstNumber (pairsCauses by-trees b v work) → 0 < k → printOutcome b text work room ≡ refused k
+  unfolding printOutcome printCauses pairsCauses verdictCause firstNumber number
+  print-refused k long v q h = rw v (ap refused (sym q))
+  print-refused k outside v q h = rw v (ap refused (sym q))
+  print-refused k large v q h = rw v (ap refused (sym q))
+  print-refused k (accepted e) v q h = go (decLt work (32 * treeUnit (b .n)))
     where
       go : Dec (work < 32 * treeUnit (b .n)) → printOutcome b text work room ≡ refused k
-      go (yes h) = print-little e v h ∙ ap refused (number-same (sym (relation-short b work rowWords e h) ∙ q))
-      go (no h) = absurd (paired-refused (sym (relation-paired b work rowWords e (omega arith) (omega arith)) ∙ q))
+      go (yes l) =
+          let z : _≡_ {A = ℕ} (pick (ltb work (32 * treeUnit (b .n))) 12 0) 12 = rw (lt-ltb work (32 * treeUnit (b .n)) l) refl in
+          print-little e v l ∙ ap refused (sym (q ∙ z))
+      go (no l) =
+          absurd (let z : _≡_ {A = ℕ} (pick (ltb work (32 * treeUnit (b .n))) 12 0) 0 = rw (le-ltb work (32 * treeUnit (b .n)) (omega arith)) refl in
+          omega (arith, q, z, h))
 
   pub print-in-order : InOrder (printCauses b text work room) questionOrder
   unfolding printCauses pairsCauses questionOrder verdictCause

@@ -24,15 +24,13 @@ use Rattle.paths.specs.Relations.{cells, pairs}
 use Rattle.paths.specs.Verdicts.{verdict}
 use Rattle.answers.specs.declared.Counted.{Counted}
 use Rattle.answers.specs.declared.Counted.the-variants.{Count, Refused}
-use Rattle.paths.specs.Questions.{Outcome, refused, pairsOf, over, listAfter, countOf}
+use Rattle.paths.specs.Questions.{Outcome, refused, pairsOf, pairsCauses, over, listAfter, countOf}
 use Rattle.register.specs.Representation.{Represents}
 use Rattle.register.specs.declared.Register.{Register}
-use Rattle.query.specs.Asking.{relationAnswer, relationCauses, rowWords}
-use Rattle.query.specs.AskingLaws.{relation-short}
 use Rattle.pages.specs.Pages.{pages, IsPages}
 use Rattle.pages.specs.PageCalls.{filled, printOutcome, Prints, Content, listing, nothing, Holds, are-pages, no-pages, readCauses, readOutcome}
 use Rattle.pages.specs.PageCalls.{ReadsPages}
-use Rattle.pages.specs.PageCallLaws.{print-refused, print-short, print-filled, read-broken, read-short, read-filled}
+use Rattle.pages.specs.PageCallLaws.{print-refused, print-little, print-short, print-filled, read-broken, read-short, read-filled}
 use Rattle.pages.specs.Lines.{linesOf, wordsBefore}
 use Rattle.pages.specs.ReadLaws.{pages-stand}
 
@@ -71,14 +69,14 @@ record Printed (b : Book) (text : List ℕ) (work room k : ℕ) : Type 0 where
 
 printed : (b : Book) (text : List ℕ) (work room k : ℕ) (v : Verdict) → verdict text ≡ v
     → Count k ≡ countOf (printOutcome b text work room) → Printed b text work room k
-unfolding relationAnswer relationCauses verdictCause firstNumber number
-printed b text work room k long v T = absurd (not-refused _ T (print-refused b text work room 10 long v refl))
-printed b text work room k outside v T = absurd (not-refused _ T (print-refused b text work room 9 outside v refl))
-printed b text work room k large v T = absurd (not-refused _ T (print-refused b text work room 10 large v refl))
+unfolding pairsCauses verdictCause firstNumber number
+printed b text work room k long v T = absurd (not-refused _ T (print-refused b text work room 10 long v refl (omega arith)))
+printed b text work room k outside v T = absurd (not-refused _ T (print-refused b text work room 9 outside v refl (omega arith)))
+printed b text work room k large v T = absurd (not-refused _ T (print-refused b text work room 10 large v refl (omega arith)))
 printed b text work room k (accepted e) v T = go (decLt work (32 * treeUnit (b .n))) (decLt room (length (pages text (pairs (asked b) e))))
   where
     go : Dec (work < 32 * treeUnit (b .n)) → Dec (room < length (pages text (pairs (asked b) e))) → Printed b text work room k
-    go (yes h) d = absurd (not-refused _ T (print-refused b text work room 12 (accepted e) v (relation-short b work rowWords e h)))
+    go (yes h) d = absurd (not-refused _ T (print-little b text work room e v h))
     go (no h) (yes d) = absurd (not-refused _ T (print-short b text work room e v (omega arith) d))
     go (no h) (no d) =
         let q = print-filled b text work room e v (omega arith) (omega arith) in

@@ -4,18 +4,19 @@ ghost use mathlib.Core.Path.{_≡_};
 ghost use mathlib.Core.Bool.{true};
 ghost use Prim.Native.Nat.{ℕ, _+_, _*_, _≤_, _<_, min};
 ghost use lib.ListN.{length, take, drop, getD};
-ghost use Rattle.k2.specs.Bits.{bitAt};
+ghost use Rattle.book.specs.Causes.{maxRecords};
 ghost use Rattle.answers.specs.Answers.{Whole};
 ghost use Rattle.paths.specs.Expressions.{Expr};
 ghost use Rattle.paths.specs.Grammar.{accepted};
 ghost use Rattle.paths.specs.Verdicts.{verdict};
 ghost use Rattle.paths.specs.Questions.{over};
-ghost use Rattle.rows.specs.Rows.{pairsIn};
+ghost use Rattle.rowpairs.specs.Evaluation.{Held};
 ghost use Rattle.report.specs.Report.{decimal};
 ghost use Rattle.answers.specs.Written.{Wrote};
-ghost use Rattle.pages.specs.Pages.{blanks, rightAligned, recordCell, pairCell, pairLine, headLine, pages};
+ghost use Rattle.pages.specs.Pages.{linePairs, blanks, rightAligned, recordCell, pairCell, pairLine, headLine, pages};
 ghost use Rattle.pages.specs.PageCalls.{Prints, ReadsPages};
-ghost use Rattle.pages.specs.Lines.{linesOf, value, cellWord, cellWords, wordsAt, wordsBefore, Gathered, Laid, Rising, Line, Judged};
+ghost use Rattle.pages.specs.Lines.{lineBytes, pairWords, mostLines, held, pairsHeld, linesOf, value, cellWord, cellWords, wordsAt, wordsBefore};
+ghost use Rattle.pages.specs.Lines.{Gathered, Laid, Rising, Line, Judged};
 use answers::Counted;
 use register::Register;
 
@@ -82,7 +83,7 @@ fn put_right(width: usize, k: u64, out: &mut [u8], at: usize) -> usize
 
 // A record's number and a blank.
 fn put_record(x: u32, out: &mut [u8], at: usize) -> usize
-    requires { ⌜ (x < 1024) × (at + 6 ≤ length (now out)) ⌝ }
+    requires { ⌜ (x < maxRecords) × (at + 6 ≤ length (now out)) ⌝ }
     ensures { λ r. ⌜ Wrote at (recordCell x) (now (out .entry)) (now (out .exit)) r ⌝ }
 {
     let next = put_right(RECORD_WIDTH, x as u64, out, at);
@@ -148,80 +149,93 @@ fn lines_of(pairs: usize) -> usize
 }
 
 // Where a search for the pairs of a line ended, and how many it found.
-struct Found {
+struct LineEnd {
     place: usize,
     count: usize,
 }
 
-// The next six pairs of the rows from `from` on, or those that are left.
-fn gather(rows: &[u64], from: usize, words: &mut [u32]) -> Found
-    requires { ⌜ (from ≤ 1048576) × (length (now words) ≡ 6) ⌝ }
-    ensures { λ r. ⌜ Gathered (bitAt (now (rows .entry))) from (now (words .exit)) (r .place) (r .count) ⌝ }
+// The next six pairs of a relation of n records from `from` on, or those that are left.
+fn gather(cells: &[u64], masks: &[u16], n: usize, from: usize, words: &mut [u32]) -> LineEnd
+    requires { ⌜ (from ≤ pairWords) × (length (now words) ≡ linePairs) × (n ≤ maxRecords) × (n ≤ length (now masks)) ⌝ }
+    ensures { λ r. ⌜ Gathered (held (now (cells .entry)) (now (masks .entry)) n) from (now (words .exit)) (r .place) (r .count) ⌝ }
 {
     let mut count = 0;
     let mut place = from;
     while count < LINE_PAIRS {
-        let next = bits::next(rows, place, PAIR_WORDS);
+        let next = rowpairs::next_pair(cells, masks, n, place);
         if next == PAIR_WORDS {
-            return Found { place: next, count };
+            return LineEnd { place: next, count };
         }
         words[count] = next as u32;
         count += 1;
         place = next + 1;
     }
-    Found { place, count }
+    LineEnd { place, count }
 }
 
-// Line i, and where the pairs of the next lines begin in the rows.
-fn put_line(text: &[u8], i: usize, rows: &[u64], place: usize, out: &mut [u8]) -> usize
-    requires { ⌜ (i < 177726) × (place ≤ 1048576) × (73 * i + 73 ≤ length (now out)) ⌝ }
-    ensures { λ r. ⌜ Laid (bitAt (now (rows .entry))) (now (text .entry)) i place (now (out .entry)) (now (out .exit)) r ⌝ }
+// Line i, and where the pairs of the next lines begin in the relation.
+fn put_line(
+    text: &[u8],
+    i: usize,
+    cells: &[u64],
+    masks: &[u16],
+    n: usize,
+    place: usize,
+    out: &mut [u8],
+) -> usize
+    requires { ⌜ (i < mostLines) × (place ≤ pairWords) × (lineBytes * i + lineBytes ≤ length (now out)) × (n ≤ maxRecords) × (n ≤ length (now masks)) ⌝ }
+    ensures { λ r. ⌜ Laid (held (now (cells .entry)) (now (masks .entry)) n) (now (text .entry)) i place (now (out .entry)) (now (out .exit)) r ⌝ }
 {
     if i % PAGE_LINES == 0 {
         put_head_line(text, i / PAGE_LINES, out, LINE * i);
         return place;
     }
     let mut words: [u32; 6] = [0; 6];
-    let found = gather(rows, place, &mut words);
+    let found = gather(cells, masks, n, place, &mut words);
     let count = found.count;
     put_pair_line(&words, count, out, LINE * i);
     found.place
 }
 
-// The pages of the rows' pairs, so many lines.
-fn put_pages(text: &[u8], rows: &[u64], lines: usize, out: &mut [u8])
-    requires { ⌜ (lines ≡ linesOf (length (pairsIn 1024 (now rows)))) × (73 * lines ≤ length (now out)) ⌝ }
-    ensures { λ _. ⌜ now (out .exit) ≡ over (pages (now (text .entry)) (pairsIn 1024 (now (rows .entry)))) (now (out .entry)) ⌝ }
+// The pages of a relation's pairs, so many lines.
+fn put_pages(text: &[u8], cells: &[u64], masks: &[u16], n: usize, lines: usize, out: &mut [u8])
+    requires { ⌜ (lines ≡ linesOf (length (pairsHeld (held (now cells) (now masks) n)))) × (lineBytes * lines ≤ length (now out))
+        × (n ≤ maxRecords) × (n ≤ length (now masks)) ⌝ }
+    ensures { λ _. ⌜ now (out .exit)
+        ≡ over (pages (now (text .entry)) (pairsHeld (held (now (cells .entry)) (now (masks .entry)) n))) (now (out .entry)) ⌝ }
 {
     let mut place = 0;
     let mut i = 0;
     while i < lines {
-        place = put_line(text, i, rows, place, out);
+        place = put_line(text, i, cells, masks, n, place, out);
         i += 1;
     }
 }
 
 // The same if the space can hold every page.
-fn lay_out(text: &[u8], rows: &[u64], out: &mut [u8]) -> Counted
-    ensures { λ a. ⌜ Whole (pages (now (text .entry)) (pairsIn 1024 (now (rows .entry)))) (now (out .entry)) (now (out .exit)) a ⌝ }
+fn lay_out(text: &[u8], cells: &[u64], masks: &[u16], n: usize, out: &mut [u8]) -> Counted
+    requires { ⌜ Held n (length (now cells)) × (n ≤ length (now masks)) ⌝ }
+    ensures { λ a. ⌜ Whole (pages (now (text .entry)) (pairsHeld (held (now (cells .entry)) (now (masks .entry)) n))) (now (out .entry)) (now (out .exit)) a ⌝ }
 {
-    let lines = lines_of(rows::count_pairs(rows, book::MAX_RECORDS));
+    let lines = lines_of(rowpairs::count_pairs(cells, masks, n));
     if out.len() < LINE * lines {
         return Counted::Refused(book::SHORT_LIST);
     }
-    put_pages(text, rows, lines, out);
+    put_pages(text, cells, masks, n, lines, out);
     Counted::Count(LINE * lines)
 }
 
-// The pages of a pair question's answer, written into the space. No list of pairs is lent: they go from the relation's rows straight to bytes.
+// The pages of a pair question's answer, written into the space. No list of pairs is lent: they go from the relation where it
+// was made straight to bytes.
 pub fn print(register: Register, text: &[u8], work: &mut [u64], pages: &mut [u8]) -> Counted
     ensures { λ a. ⌜ Prints register (now (text .entry)) (length (now (work .entry))) (now (pages .entry)) (now (pages .exit)) a ⌝ }
 {
-    let mut rows: [u64; 16384] = [0; 16384];
-    let related = engine::relation(register, text, work, &mut rows);
-    match related {
+    let related = rowpairs::relate(register, text, work);
+    let answer = related.answer;
+    let masks = related.masks;
+    match answer {
         Counted::Refused(k) => Counted::Refused(k),
-        Counted::Count(_) => lay_out(text, &rows, pages),
+        Counted::Count(n) => lay_out(text, work, &masks, n, pages),
     }
 }
 

@@ -3,35 +3,25 @@
 --   pairs-rows     of the rows of an expression's value they are its pairs
 -- Assumes nothing.
 use mathlib.Core.Path.{_≡_, ap, _∙_}
-use mathlib.Core.List.{List, [], _∷_, _++_}
-use Prim.Native.Nat.{ℕ, zero, suc, _*_, _≤_}
+use mathlib.Core.List.{List}
+use Prim.Native.Nat.{ℕ, _*_, _≤_}
 use native.Mathlib.Omega.{arith}
-use lib.ListN.{length, length-append}
+use lib.ListN.{length}
 use Rattle.book.specs.Causes.{maxRecords}
 use Rattle.book.specs.Book.{Book}
 use Rattle.k2.specs.Bits.{bitAt}
-use Rattle.k2.specs.PairSets.{ifSet}
 use Rattle.paths.specs.Expressions.{Expr}
 use Rattle.paths.specs.Chains.{asked}
 use Rattle.paths.specs.Relations.{cells, pairs}
 use Rattle.paths.specs.RelationLaws.{cells-set}
 use Rattle.paths.specs.PairLaws.{fit-inside}
-use Rattle.rows.specs.Rows.{flat, places, pairsIn}
-use Rattle.rows.specs.RowLaws.{pairs-in}
+use Rattle.rows.specs.Rows.{flat, pairsIn}
+use Rattle.rows.specs.RowLaws.{pairs-in, length-places}
 use Rattle.query.specs.Asking.{maxPairs}
 use Rattle.query.specs.Evaluation.{Lettered}
 
-places-few : (f : ℕ → ℕ) (n : ℕ) → length (places f n) ≤ n
-unfolding places
-places-few f zero = omega arith
-places-few f (suc n) = go (f n) (places-few f n)
-  where
-    go : (v : ℕ) → length (places f n) ≤ n → length (places f n ++ ifSet v n) ≤ suc n
-    go zero h = omega (arith, length-append (places f n) [])
-    go (suc v) h = omega (arith, length-append (places f n) (n ∷ []))
-
 pub pairs-few : (n : ℕ) (ws : List ℕ) → n ≤ maxRecords → length (pairsIn n ws) ≤ maxPairs
-pairs-few n ws h = omega (arith, places-few (bitAt ws) (n * 1024))
+pairs-few n ws h = omega (arith, length-places (bitAt ws) (n * 1024))
 
 pub pairs-rows : (b : Book) (n : ℕ) (ws : List ℕ) (u : ℕ → ℕ) (e : Expr) (rows : List ℕ) → Lettered b n ws u → bitAt rows ≡ flat (cells (asked b) e)
     → pairsIn n rows ≡ pairs (asked b) e

@@ -15,9 +15,11 @@ use native.Mathlib.Omega.{arith}
 use lib.ListN.{length, take, drop, getD, length-drop, drop-of-length-le}
 use lib.Seq.{drop-cons}
 use Rattle.book.specs.Book.{Book}
+use Rattle.book.specs.ListLaws.{rest-whole}
 use Rattle.k2.specs.Bits.{bitAt}
 use Rattle.k2.specs.PairSets.{Cells}
 use Rattle.k2.specs.Trees.{treeUnit}
+use Rattle.k2.specs.PairSetLaws.{head-same}
 use Rattle.paths.specs.Expressions.{Expr}
 use Rattle.paths.specs.Chains.{asked}
 use Rattle.paths.specs.Relations.{cells}
@@ -34,7 +36,7 @@ use Rattle.pairs.specs.Evaluation.{Waiting, Placed, Room}
 use Rattle.pairs.specs.EvaluationLaws.{begins}
 use Rattle.pairs.specs.RoomLaws.{room-begins}
 use Rattle.pairs.specs.Steps.{Takes, Goes, Going, Ends}
-use Rattle.pairs.proofs.StepLaws.{rest, starts-early, lent}
+use Rattle.pairs.proofs.StepLaws.{starts-early, lent}
 
 -- ---- the whole code
 module _ (n : ℕ) (ws used c : List ℕ) where
@@ -84,9 +86,6 @@ module _ (n : ℕ) (ws used c : List ℕ) where
       l .value b L e (getD c (length c - 1) 0) (w .0) is (subst (λ (x : List ℕ). Waiting (asked b) e x ws work S (w .0)) z (w .1))
 
 -- ---- the last number's value
-head-same : {x y : Cells} {xs ys : List Cells} → x ∷ xs ≡ y ∷ ys → x ≡ y
-head-same e = cc
-
 module _ (n : ℕ) (y : Item) (ws used work before after : List ℕ) (r : Bool) (S : Stack)
     (small : n ≤ 1024) (wide : 32 * treeUnit n ≤ length work) (sixteen : length used ≡ 16)
     (rows : length before ≡ 16384) where
@@ -97,7 +96,7 @@ module _ (n : ℕ) (y : Item) (ws used work before after : List ℕ) (r : Bool) 
   ends-term q T early made = record { value = value }
     where
       I : InRows (q .term) n ws used (drop (q .start) work) before after r
-      I = subst (λ (l : List ℕ). InRows (q .term) n ws used l before after r) (rest work (q .start)) made
+      I = subst (λ (l : List ℕ). InRows (q .term) n ws used l before after r) (rest-whole work (q .start)) made
 
       room : Spaces n (q .term) (length (drop (q .start) work)) (length used) (length before)
       room = record {

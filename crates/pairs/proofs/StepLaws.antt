@@ -1,5 +1,4 @@
 -- One number of the code, in plain variables: what letters, `^`, and an operator do to the operands that wait.
---   rest, part-length    the part that is lent is the rest of the work, and its length
 --   starts-early         the trees of the operands below the top end early enough to leave room for the value
 --   takes-letters, takes-inverse, takes-one, takes-two
 --                        what each kind of item takes off the stack
@@ -16,9 +15,10 @@ use Prim.Native.Nat.{ℕ, _+_, _-_, _*_, _<_, _≤_}
 use native.Mathlib.Nat.{mul-le-mul-right}
 use native.Mathlib.Omega.{arith}
 use lib.ListN.{length, take, drop, set, length-set, length-drop}
-use lib.Seq.{drop-at, drop-drop, length-take-le, drop-length, take-all, getD-set-same}
-use borrow.Rule.Slice.PartMut.{putMid, take-put, mid-len}
+use lib.Seq.{drop-at, drop-drop, length-take-le, drop-length, getD-set-same}
+use borrow.Rule.Slice.PartMut.{putMid, take-put}
 use Rattle.book.specs.Book.{Book}
+use Rattle.book.specs.ListLaws.{rest-whole, rest-length}
 use Rattle.k2.specs.Bits.{bitAt}
 use Rattle.k2.specs.BitLaws.{bit-lt}
 use Rattle.k2.specs.PairSets.{Cells, IsSet, union, diagonal}
@@ -70,10 +70,6 @@ module _ (work part : List ℕ) (start : ℕ) (h : start ≤ length work) where
 long-as : (r : ℕ) (l xs : List ℕ) → r ≤ length l → take r l ≡ xs → r ≡ length xs
 long-as r l xs h e = sym (length-take-le r l h) ∙ ap length e
 
--- the part that is lent is the rest of work
-pub rest : (work : List ℕ) (start : ℕ) → take (length work - start) (drop start work) ≡ drop start work
-rest work start = take-all (length work - start) (drop start work) (rw (length-drop start work) (omega arith))
-
 -- ---- where the operands lie
 product-le : (k m d : ℕ) → k ≤ m → k * d ≤ m * d
 product-le k m d h = mul-le-mul-right d h
@@ -81,10 +77,6 @@ product-le k m d h = mul-le-mul-right d h
 -- the trees of the operands below the top end early enough to leave room for the value
 pub starts-early : {d k at : ℕ} {os : List Operand} → Totals d os k at → k ≤ 18 → at ≤ 18 * d
 starts-early {d} {k} t h = omega (arith, totals-most t, product-le k 18 d h)
-
--- the length of the part from a word on
-pub part-length : (work : List ℕ) (start : ℕ) → length (take (length work - start) (drop start work)) ≡ length work - start
-part-length work start = mid-len start (length work) work (omega arith)
 
 -- ---- the operands taken off
 module _ {d : ℕ} {y : Item} {S : Stack} (P : Placed d S) (Q : Ready y (S .count)) where
@@ -358,7 +350,7 @@ module _ (n : ℕ) (y : Item) (ws used work part : List ℕ) (S : Stack) (q : Ta
   after = record { operands = set (S .operands) (q .below) (treeAlone size Plain); count = q .below + 1; end = q .start + size }
 
   O : Operated (q .term) n ws used 16384 (drop (q .start) work) part r
-  O = subst (λ (l : List ℕ). Operated (q .term) n ws used 16384 l part r) (rest work (q .start))
+  O = subst (λ (l : List ℕ). Operated (q .term) n ws used 16384 l part r) (rest-whole work (q .start))
       (subst (λ (i : ℕ). Operated (q .term) n ws used i (take (length work - q .start) (drop (q .start) work)) part r) bits made)
 
   spaces : Spaces n (q .term) (length (drop (q .start) work)) (length used) 16384
@@ -397,7 +389,7 @@ module _ (n : ℕ) (y : Item) (ws used work part : List ℕ) (S : Stack) (q : Ta
             (standing-kept (t .stand) (q .start) (omega arith) (front work part (q .start) h)) j
             (subst (λ (i : ℕ). IsSet i (termSet (q .term) i ws (bitAt used) (t .a) (t .b))) (L .size)
             (term-set (q .term) n ws (bitAt used) _ (t .a) (t .b) small (bit-lt used) (m .1))) (ap (take size) (back work part (q .start) h) ∙ words)
-            (long-as size part (treeWords (b .n) v) (omega (arith, O .most, part-length work (q .start), length-drop (q .start) work)) words)),
+            (long-as size part (treeWords (b .n) v) (omega (arith, O .most, rest-length work (q .start), length-drop (q .start) work)) words)),
       )
 
   pub goes-operator : length (S .operands) ≡ 19 → Goes n ws used y work (changed work part (q .start) h) S after

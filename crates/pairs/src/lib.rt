@@ -4,6 +4,7 @@ ghost use mathlib.Core.Path.{_≡_};
 ghost use mathlib.Core.List.{List};
 ghost use Prim.Native.Nat.{ℕ, _*_, _-_, _<_, _≤_};
 ghost use lib.ListN.{length, take};
+ghost use Rattle.k2.specs.Sizes.{rowsWords};
 ghost use Rattle.book.specs.Book.{Book};
 ghost use Rattle.book.specs.Causes.{maxRecords};
 ghost use Rattle.k2.specs.Bits.{bitAt};
@@ -164,7 +165,7 @@ fn operator(
     stack: Stack,
     item: Item,
 ) -> Stack
-    requires { ⌜ (n ≤ maxRecords) × (32 * treeUnit n ≤ length (now work)) × (length (now used) ≡ 16) × (length (now rows) ≡ 16384)
+    requires { ⌜ (n ≤ maxRecords) × (32 * treeUnit n ≤ length (now work)) × (length (now used) ≡ 16) × (length (now rows) ≡ rowsWords)
         × Ready item (stack .count) × Placed (treeUnit n) stack ⌝ }
     ensures { λ r. ⌜ Goes n (now (links .entry)) (now (used .entry)) item (now (work .entry)) (now (work .exit)) stack r ⌝ }
 {
@@ -197,7 +198,7 @@ fn step(
     stack: Stack,
     item: Item,
 ) -> Stack
-    requires { ⌜ (n ≤ maxRecords) × (32 * treeUnit n ≤ length (now work)) × (length (now used) ≡ 16) × (length (now rows) ≡ 16384)
+    requires { ⌜ (n ≤ maxRecords) × (32 * treeUnit n ≤ length (now work)) × (length (now used) ≡ 16) × (length (now rows) ≡ rowsWords)
         × Ready item (stack .count) × Placed (treeUnit n) stack ⌝ }
     ensures { λ r. ⌜ Goes n (now (links .entry)) (now (used .entry)) item (now (work .entry)) (now (work .exit)) stack r ⌝ }
 {
@@ -217,7 +218,7 @@ fn evaluate(
     rows: &mut [u64],
     code: &[u64],
 ) -> Stack
-    requires { ⌜ (n ≤ maxRecords) × (32 * treeUnit n ≤ length (now work)) × (length (now used) ≡ 16) × (length (now rows) ≡ 16384)
+    requires { ⌜ (n ≤ maxRecords) × (32 * treeUnit n ≤ length (now work)) × (length (now used) ≡ 16) × (length (now rows) ≡ rowsWords)
         × ((s : List ℕ) × (e : Expr) × Coded s e (now code)) ⌝ }
     ensures { λ r. ⌜ Going n (now (links .entry)) (now (used .entry)) (now (code .entry)) (now (work .exit)) r (length (now (code .entry)) - 1) ⌝ }
 {
@@ -245,7 +246,7 @@ fn last(
     stack: Stack,
     item: Item,
 )
-    requires { ⌜ (n ≤ maxRecords) × (32 * treeUnit n ≤ length (now work)) × (length (now used) ≡ 16) × (length (now rows) ≡ 16384)
+    requires { ⌜ (n ≤ maxRecords) × (32 * treeUnit n ≤ length (now work)) × (length (now used) ≡ 16) × (length (now rows) ≡ rowsWords)
         × Ready item (stack .count) × Placed (treeUnit n) stack ⌝ }
     ensures { λ _. ⌜ Ends n (now (links .entry)) (now (used .entry)) item (now (work .entry)) stack (now (rows .exit)) ⌝ }
 {
@@ -257,7 +258,7 @@ fn last(
 
 // The whole code: its value is left in rows.
 fn run(work: &mut [u64], n: usize, links: &[u32], used: &[u64], rows: &mut [u64], code: &[u64])
-    requires { ⌜ (n ≤ maxRecords) × (32 * treeUnit n ≤ length (now work)) × (length (now used) ≡ 16) × (length (now rows) ≡ 16384)
+    requires { ⌜ (n ≤ maxRecords) × (32 * treeUnit n ≤ length (now work)) × (length (now used) ≡ 16) × (length (now rows) ≡ rowsWords)
         × ((s : List ℕ) × (e : Expr) × Coded s e (now code)) ⌝ }
     ensures { λ _. ⌜ ((b : Book) → Lettered b n (now (links .entry)) (bitAt (now (used .entry))) → (s : List ℕ) (e : Expr) → Coded s e (now (code .entry))
         → bitAt (now (rows .exit)) ≡ flat (cells (asked b) e)) ⌝ }
@@ -288,7 +289,7 @@ fn of_code(
     let array = links.words;
     let marks = register.marks();
     let used = query::in_use(&marks, n);
-    let mut rows: [u64; 16384] = [0; 16384];
+    let mut rows: [u64; k2::ROWS_WORDS] = [0; k2::ROWS_WORDS];
     run(work, n, &array[..count], &used, &mut rows, &code[..len]);
     let total = rows::count_pairs(&rows, n);
     rows::write_pairs(&rows, n, list);

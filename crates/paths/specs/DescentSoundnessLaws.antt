@@ -8,13 +8,14 @@
 -- Assumes nothing.
 use mathlib.Core.Path.{_≡_, refl, sym, ap, _∙_, subst}
 use mathlib.Core.List.{List, [], _∷_, _++_, append-assoc}
-use mathlib.Core.Bool.{Bool, true, false, _&&_}
+use mathlib.Core.Bool.{Bool, true, false}
 use Prim.Native.Nat.{ℕ, zero, suc, _+_, _-_, _<_}
 use native.Mathlib.Omega.{arith}
 use lib.Dec.{leb, ltb, eqb}
 use lib.ListN.{length, length-append}
 use borrow.Author.Tests.{eqb-true, leb-true, ltb-true}
 use Rattle.book.specs.Causes.{labels}
+use Rattle.book.specs.SetLaws.{and-both}
 use Rattle.paths.specs.Expressions.{Letter, Expr, alternative, sequence}
 use Rattle.paths.specs.Grammar.{bar, slash, hat, bang, asterisk, plus-sign, question-mark, open-group, close-group, letter-a, Member, plain-member}
 use Rattle.paths.specs.Grammar.{inverted-member, Members, one-member, more-members, Rule, alternatives, parts, part, marked, atom, Is, one-alternative}
@@ -48,14 +49,10 @@ pub first-taken : (l : List ℕ) (c : ℕ) → 0 < c → eqb (firstByte l) c ≡
 first-taken [] c h e = absurd (let z : _≡_ {A = ℕ} 0 c = eqb-true 0 c e in omega arith)
 first-taken (x ∷ l) c h e = ap (λ (y : ℕ). y ∷ l) (eqb-true x c e)
 
-and-true : (a b : Bool) → (a && b) ≡ true → (a ≡ true) × (b ≡ true)
-and-true true b h = (refl, h)
-and-true false b h = absurd (let z : _≡_ {A = ℕ} 0 1 = cc in omega arith)
-
 letter-byte : (l : List ℕ) → isLetter (firstByte l) ≡ true → (l ≡ (letter-a + (firstByte l - letter-a)) ∷ rest l) × (firstByte l - letter-a < labels)
 letter-byte [] h = absurd (let z : _≡_ {A = ℕ} 0 1 = cc in omega arith)
 letter-byte (c ∷ l) h =
-    let p = and-true (leb letter-a c) (ltb c (letter-a + labels)) h in
+    let p = and-both (leb letter-a c) (ltb c (letter-a + labels)) h in
     let low = leb-true letter-a c (p .0) in
     let high = ltb-true c (letter-a + labels) (p .1) in
     (ap (λ (y : ℕ). y ∷ l) (omega arith), omega arith)

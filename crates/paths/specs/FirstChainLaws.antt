@@ -262,7 +262,7 @@ module _ (g : Graph) where
   end-is (cross p c) = end-is c
 
 -- ---- the first chain
-length-step-words : (ss : List Step) → length (stepWords ss) ≡ length ss
+pub length-step-words : (ss : List Step) → length (stepWords ss) ≡ length ss
 unfolding stepWords
 length-step-words [] = refl
 length-step-words (s ∷ ss) = ap suc (length-step-words ss)

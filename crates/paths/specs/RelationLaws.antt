@@ -10,16 +10,16 @@
 use mathlib.Core.Path.{_≡_, refl, ap, ap₂, subst, fun-ext}
 use mathlib.Core.Logic.{_↔_, _⊎_, ⊎-elim}
 use mathlib.Core.Bool.{Bool, true, false}
-use Prim.Native.Nat.{ℕ, zero, suc, max, _≤_, _<_}
+use Prim.Native.Nat.{ℕ, max, _≤_, _<_}
 use native.Mathlib.Omega.{arith}
 use native.Mathlib.Decide.{decLt}
 use lib.Dec.{eqb}
 use borrow.Author.Tests.{eq-eqb, eqb-true}
 use Rattle.book.specs.Basics.{pick, bit}
 use Rattle.book.specs.Causes.{labels}
-use Rattle.k2.specs.PairSets.{Cells, IsSet, union, transpose, most, OneOrMore, once as once-more, more, closure, diagonal}
+use Rattle.k2.specs.PairSets.{Cells, IsSet, union, transpose, OneOrMore, once as once-more, more, closure, diagonal}
 use Rattle.k2.specs.PairSetLaws.{one-of, bit-small, bit-on, most-some, some-most, most-bit, union-set, product-set, transpose-set, closure-set, diagonal-set}
-use Rattle.k2.specs.PairSetLaws.{product-middle, middle-product, closure-leads, leads-closure}
+use Rattle.k2.specs.PairSetLaws.{most-same, product-middle, middle-product, closure-leads, leads-closure}
 use Rattle.paths.specs.Expressions.{Letter, standsFor, Expr, symbol, group, inverse, star, plus, optional, alternative, sequence}
 use Rattle.paths.specs.Chains.{Graph, crossing, Has}
 use Rattle.paths.specs.Relations.{Rel, link, inside, swapped, left, right, joined, once, again, star-none, star-some, optional-none, optional-once, joins}
@@ -100,11 +100,6 @@ module _ (g : Graph) (f : Letter → Bool) where
     }
 
 -- sets that have the same letters are crossed alike
-most-same : (n : ℕ) (f h : ℕ → ℕ) → ((l : ℕ) → l < n → f l ≡ h l) → most n f ≡ most n h
-unfolding most
-most-same zero f h e = refl
-most-same (suc n) f h e = ap₂ max (most-same n f h (λ l k. e l (omega arith))) (e n (omega arith))
-
 pub crossed-same : (g : Graph) (f h : Letter → Bool) → ((a : Letter) → a .label < labels → f a ≡ h a) → crossedBy g f ≡ crossedBy g h
 unfolding crossedBy
 crossed-same g f h e = fun-ext (λ x. fun-ext (λ y. most-same labels _ _ (λ l k.

@@ -4,6 +4,7 @@
 --   verdict-long, verdict-none, verdict-more, verdict-letters, verdict-deep, verdict-accepted
 --                  which verdict it is, by what the descent finds
 --   verdict-only   no other verdict is right
+--   accepted-same  an accepted text has one expression
 --   InLimits s e   s is the text of e, within the limits
 --   accepted-is    an accepted text is such
 -- Assumes nothing.
@@ -120,6 +121,9 @@ verdict-only {s} (over-bytes h) = sym (verdict-long s h)
 verdict-only {s} (no-syntax h n) = none-reads s (readAlternatives s) h n refl (alternatives-sound s)
 verdict-only {s} (over-limits {e} h d o) = sym (⊎-elim (λ k. verdict-letters s e h (text-read d) k) (λ k. too-deep s e h d k) o)
 verdict-only {s} (good {e} h d l k) = sym (verdict-accepted s e h (text-read d) l k)
+
+pub accepted-same : {e f : Expr} → accepted e ≡ accepted f → e ≡ f
+accepted-same e = cc
 
 -- what is accepted
 pub record InLimits (s : List ℕ) (e : Expr) : Type 0 where

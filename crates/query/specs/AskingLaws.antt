@@ -13,6 +13,8 @@
 --                   the outcome of the relation as rows: the verdict's number; 12 for the work or for the rows; how many pairs there are
 --   relates-faulty, relates-short, relates-few, relates-made
 --                   so it promises of any register: refused, or the rows made
+--   leaves-faulty, leaves-short, leaves-made
+--                   the relation left where it was made: refused, or made
 --   handed-tells    what is handed over is told by its outcome
 --   whole-contained what is handed over whole is contained in its list
 -- Assumes nothing.
@@ -34,19 +36,22 @@ use Rattle.answers.specs.ListingLaws.{shown-over, shown-past}
 use Rattle.answers.specs.declared.Counted.{Counted}
 use Rattle.answers.specs.declared.Counted.the-variants.{Count, Refused}
 use Rattle.k2.specs.Bits.{bitAt}
+use Rattle.k2.specs.PairSets.{Cells}
 use Rattle.paths.specs.Expressions.{Expr}
 use Rattle.paths.specs.Grammar.{Verdict, accepted, long, outside, large, verdictCause}
 use Rattle.paths.specs.Chains.{asked}
 use Rattle.paths.specs.Relations.{cells, pairs}
 use Rattle.paths.specs.PairLaws.{verdict-caused}
-use Rattle.paths.specs.Questions.{Outcome, Engine, refused, paired, pairsWork, workFor, pairsOf, pairsCauses, pairsAnswer}
+use Rattle.paths.specs.Questions.{Outcome, Engine, by-trees, refused, paired, pairsWork, workFor, pairsOf, pairsCauses, pairsAnswer}
 use Rattle.paths.specs.Questions.{unless, listAfter, countOf, Tells}
+use Rattle.paths.specs.Verdicts.{accepted-same}
 use Rattle.reader.specs.Reads.{readAnswer}
 use Rattle.reader.specs.declared.Answer.the-variants.{Refused as Faulty}
 use Rattle.register.specs.Representation.{Represents}
 use Rattle.register.specs.declared.Register.{Register}
 use Rattle.rows.specs.Rows.{flat}
 use Rattle.query.specs.Asking.{Asks, AsksFor, maxPairs, rowWords, relationCauses, relationAnswer, RelatesFor}
+use Rattle.query.specs.Leaving.{Leaves}
 
 -- ---- any question that counts
 module _ (most : ℕ) (r : Register) (o : Book → Outcome) (before : List ℕ) where
@@ -150,9 +155,6 @@ module _ (b : Book) (work rows : ℕ) where
     unfolding relationAnswer relationCauses verdictCause firstNumber number pairsOf
     relation-paired l = rw (le-ltb work (pairsWork (b .n)) h, le-ltb rows rowWords l)
 
-accepted-same : {e f : Expr} → accepted e ≡ accepted f → e ≡ f
-accepted-same e = cc
-
 module _ (r : Register) (v : Verdict) (work : ℕ) (before : List ℕ) where
   relates-refused : (k : ℕ) → Caused k → ((b : Book) → Represents r b → relationAnswer b v work (length before) ≡ refused k)
       → RelatesFor r v work before before (Refused k)
@@ -198,6 +200,54 @@ module _ (r : Register) (v : Verdict) (work : ℕ) (before : List ℕ) where
               ap bitAt (take-at part (drop rowWords before) rowWords wide) ∙ m .0 ∙ ap (λ (x : Expr). flat (cells (asked b) x)) y;
         };
   }
+
+-- ---- the relation left where it was made
+module _ (b : Book) (work : ℕ) where
+  number-faulty : (v : Verdict) (k : ℕ) → readAnswer v ≡ Faulty k → Refused k ≡ answered (firstNumber (pairsCauses by-trees b v work)) (b .n)
+  unfolding pairsCauses verdictCause firstNumber number readAnswer answered
+  number-faulty (accepted e) k q = absurd (let z : _≡_ {A = ℕ} 0 1 = cc in omega arith)
+  number-faulty long k q = let z : 10 ≡ k = cc in ap Refused (sym z)
+  number-faulty outside k q = let z : 9 ≡ k = cc in ap Refused (sym z)
+  number-faulty large k q = let z : 10 ≡ k = cc in ap Refused (sym z)
+
+  number-short : (e : Expr) → work < pairsWork (b .n) → Refused 12 ≡ answered (firstNumber (pairsCauses by-trees b (accepted e) work)) (b .n)
+  unfolding pairsCauses verdictCause firstNumber number answered
+  number-short e h = rw (lt-ltb work (pairsWork (b .n)) h) refl
+
+  number-none : (e : Expr) → pairsWork (b .n) ≤ work → Count (b .n) ≡ answered (firstNumber (pairsCauses by-trees b (accepted e) work)) (b .n)
+  unfolding pairsCauses verdictCause firstNumber number answered
+  number-none e h = rw (le-ltb work (pairsWork (b .n)) h) refl
+
+module _ (r : Register) (v : Verdict) (work : ℕ) (left : ℕ → Cells) where
+  leaves-refused : (k : ℕ) → Caused k → ((b : Book) → Represents r b → Refused k ≡ answered (firstNumber (pairsCauses by-trees b v work)) (b .n))
+      → Leaves r v work left (Refused k)
+  leaves-refused k z f = record {
+    caused = λ j q. let y : k ≡ j = cc in subst Caused y z;
+    book = λ b R. record { answer = f b R; value = λ e s n q. absurd (let y : _≡_ {A = ℕ} 0 1 = cc in omega arith) };
+  }
+
+  pub leaves-faulty : (k : ℕ) → readAnswer v ≡ Faulty k → Leaves r v work left (Refused k)
+  leaves-faulty k e = leaves-refused k (faulty-caused v k e) (λ b R. number-faulty b work v k e)
+
+  module _ (e : Expr) (is : v ≡ accepted e) (n : ℕ) (size : (b : Book) → Represents r b → n ≡ b .n) where
+    pub leaves-short : work < pairsWork n → Leaves r v work left (Refused 12)
+    unfolding number
+    leaves-short h =
+        leaves-refused 12 (short-work, refl) (λ b R. number-short b work e (subst (λ (i : ℕ). work < pairsWork i) (size b R) h)
+        ∙ ap (λ (w : Verdict). answered (firstNumber (pairsCauses by-trees b w work)) (b .n)) (sym is))
+
+    pub leaves-made : pairsWork n ≤ work → ((b : Book) → Represents r b → left n ≡ cells (asked b) e) → Leaves r v work left (Count n)
+    leaves-made h made = record {
+      caused = λ j q. absurd (let y : _≡_ {A = ℕ} 0 1 = cc in omega arith);
+      book = λ b R. record {
+        answer = ap Count (size b R) ∙ number-none b work e (subst (λ (i : ℕ). pairsWork i ≤ work) (size b R) h)
+            ∙ ap (λ (w : Verdict). answered (firstNumber (pairsCauses by-trees b w work)) (b .n)) (sym is);
+        value = λ f q m s.
+            let y : e ≡ f = accepted-same (sym is ∙ q) in
+            let z : n ≡ m = cc in
+            ap left (sym z) ∙ made b R ∙ ap (λ (x : Expr). cells (asked b) x) y;
+      };
+    }
 
 pub handed-tells : (k : ℕ) {xs ws before after : List ℕ} {a : Counted} → Handed k xs ws before after a → Tells (unless k (paired (length xs) ws)) before after a
 unfolding answered overUnless countOf listAfter

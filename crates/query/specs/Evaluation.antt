@@ -28,7 +28,7 @@ use Rattle.reader.specs.declared.items.Item.{Item}
 use Rattle.reader.specs.Letters.{lettersIn}
 use Rattle.reader.specs.Code.{Algebra, code, run}
 use Rattle.reader.specs.Running.{operands, Runs}
-use Rattle.register.specs.Links.{Linked}
+use Rattle.links.specs.Links.{Linked}
 use Rattle.register.specs.Marks.{withdrawnMark, hasMark}
 
 unfoldable pub relations : Graph → Algebra Cells

@@ -5,16 +5,17 @@
 --   used-below       the records in use are below n
 --   used-asked       of a register's marks they are those of its book
 --   read-lettered    what is read of a register is its book's
+--   read-known       so of its marks and links alone
 -- Assumes nothing.
 use mathlib.Core.Path.{_≡_, refl, sym, ap, _∙_, subst, fun-ext}
 use mathlib.Core.Logic.{⊎-elim}
 use mathlib.Core.List.{List, [], _∷_, map}
-use mathlib.Core.Bool.{Bool, true, false}
+use mathlib.Core.Bool.{Bool, true, false, not, _&&_}
 use Prim.Native.Nat.{ℕ, _+_, _*_, _/_, _%_, _<_, _≤_, max}
 use native.Mathlib.Decide.{decLt}
 use native.Mathlib.Omega.{arith}
-use lib.Dec.{eqb}
-use lib.ListN.{take}
+use lib.Dec.{eqb, ltb}
+use lib.ListN.{length, take}
 use borrow.Author.Tests.{eqb-true, eq-eqb, le-ltb}
 use Rattle.book.specs.Basics.{pick, bit, In, here, there}
 use Rattle.book.specs.ListLaws.{in-none, in-front, in-map}
@@ -33,9 +34,12 @@ use Rattle.reader.specs.Letters.{lettersIn}
 use Rattle.register.specs.MarkLaws.{listed-withdrawn}
 use Rattle.register.specs.Questions.{Sized, Listing, MarkList}
 use Rattle.register.specs.Representation.{Represents}
+use Rattle.register.specs.Marks.{withdrawnMark, hasMark}
+use Rattle.register.specs.Reads.{ReadOf}
 use Rattle.register.specs.declared.Register.{Register}
 use Rattle.register.specs.declared.Links.{Links}
-use Rattle.rows.specs.Rows.{linkPair, labelled, crossedWords}
+use Rattle.rows.specs.Rows.{labelled, crossedWords}
+use Rattle.links.specs.Links.{linkPair}
 use Rattle.query.specs.Evaluation.{usedBelow, Lettered}
 
 -- ---- the words of a set of labels
@@ -174,3 +178,18 @@ module _ {r : Register} {n : ℕ} {ms : List ℕ} (M : MarkList r ms) (b : Book)
     linked = T .linked b R;
     in-use = used-asked z;
   }
+
+pub read-known : {r : Register} {marks links : List ℕ} → ReadOf r marks links → (b : Book) → Represents r b
+    → Lettered b (length marks) links (usedBelow (length marks) marks)
+unfolding usedBelow asked
+read-known {marks = marks} O b R = let z = O .size b R in record {
+  size = z;
+  small = omega (arith, R .size, R .ranged .size);
+  fit = R .sheet .fit;
+  linked = O .linked b R;
+  in-use = fun-ext (λ x. used x (decLt x (length marks)));
+}
+  where
+    used : (x : ℕ) → Dec (x < length marks) → bit (ltb x (length marks) && not (hasMark withdrawnMark marks x)) ≡ bit (asked b .inUse x)
+    used x (yes h) = rw (O .marked b R x h, O .size b R) refl
+    used x (no h) = rw (le-ltb x (length marks) (omega arith), le-ltb x (b .n) (omega (arith, O .size b R))) refl

@@ -1,4 +1,5 @@
 pub mod Asking
+pub mod Leaving
 pub mod AskingLaws
 pub mod Evaluation
 pub mod EvaluationLaws

@@ -31,7 +31,7 @@ pub fn pairs_work(n: usize) -> usize
     requires { ⌜ n ≤ maxRecords ⌝ }
     ensures { λ r. ⌜ r ≡ pairsWork n ⌝ }
 {
-    PARTS * packing::tree_unit(n)
+    PARTS * k2::tree_unit(n)
 }
 
 // The words of a row of n columns.

@@ -1,5 +1,5 @@
 -- The laws of reading a symbol: a letter, or a negated set with its members.
---   one-shl-32, label-letter, label-other, IsLetter, letter-there, no-letter-there
+--   label-letter, label-other, IsLetter, letter-there, no-letter-there
 --                  the label of a byte as a set
 --   marks-none, marks-same, marks-other, others-are
 --                  the sets of the members read so far, and what the negated set stands for
@@ -15,13 +15,12 @@ use mathlib.Core.Path.{_≡_, refl, sym, ap, ap₂, _∙_, subst}
 use mathlib.Core.Logic.{_⊎_, ⊎-elim}
 use mathlib.Core.List.{List, [], _∷_, _++_}
 use mathlib.Core.Bool.{Bool, true, false, not, _&&_, _||_}
-use Prim.Native.Nat.{ℕ, zero, suc, _+_, _-_, _*_, _%_, _^_, _≤_, _<_, max}
-use native.Mathlib.Nat.{one-mul}
+use Prim.Native.Nat.{ℕ, zero, suc, _+_, _-_, _^_, _≤_, _<_, max}
 use native.Mathlib.Omega.{arith}
 use lib.Bits.{bitOr, or-lt}
-use lib.Dec.{lit<, leb, ltb, eqb}
+use lib.Dec.{leb, ltb, eqb}
 use lib.ListN.{length, drop, length-drop}
-use lib.Pow.{shl-exact, pow-lt, pow-pos}
+use lib.Pow.{pow-lt, pow-pos}
 use borrow.Author.Tests.{eq-eqb, ne-eqb, eqb-true, eqb-false, le-leb, lt-leb, leb-true, lt-ltb, le-ltb, ltb-true}
 use Rattle.book.specs.Basics.{pick, bit, has}
 use Rattle.book.specs.SetLaws.{and-both, or-true}
@@ -42,10 +41,6 @@ use Rattle.reader.specs.Progress.{Stands, missing, stands, labelAt, Mark
 use Rattle.reader.proofs.StepLaws.{rest-drop, there}
 
 -- ---- the label of a byte as a set
--- `1 << r` at a width of 32
-pub one-shl-32 : (r : ℕ) → r < 32 → (1 * 2 ^ r) % 2 ^ 32 ≡ 2 ^ r
-one-shl-32 r h = shl-exact 1 r 32 (lit< tt) (omega arith) ∙ one-mul (2 ^ r)
-
 not-letter : (c : ℕ) → (c < letter-a) ⊎ (letter-a + labels ≤ c) → isLetter c ≡ false
 not-letter c h =
     ⊎-elim (λ k. ap (λ (b : Bool). b && ltb c (letter-a + labels)) (lt-leb letter-a c k))

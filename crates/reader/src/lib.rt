@@ -90,7 +90,7 @@ fn ends_at(r: Parsed) -> Spot
 }
 
 // What was read first, and what was read next after an operator's byte, as one expression.
-fn joined(code: &mut [u64], first: Parsed, next: Parsed, x: u64) -> Parsed
+fn combined(code: &mut [u64], first: Parsed, next: Parsed, x: u64) -> Parsed
     requires { ⌜ RoomToJoin (length (now code)) first next ⌝ }
     ensures { λ r. ⌜ Joins x first next (now (code .entry)) (now (code .exit)) r ⌝ }
 {
@@ -118,7 +118,7 @@ fn alternatives(s: &[u8], at: usize, code: &mut [u64], n: usize) -> Parsed
     while comes_next(s, first, b'|') {
         let q = ends_at(first);
         let next = sequence(s, q.at + 1, code, q.end);
-        first = joined(code, first, next, ALTERNATIVE);
+        first = combined(code, first, next, ALTERNATIVE);
     }
     first
 }
@@ -132,7 +132,7 @@ fn sequence(s: &[u8], at: usize, code: &mut [u64], n: usize) -> Parsed
     while comes_next(s, first, b'/') {
         let q = ends_at(first);
         let next = part(s, q.at + 1, code, q.end);
-        first = joined(code, first, next, SEQUENCE);
+        first = combined(code, first, next, SEQUENCE);
     }
     first
 }

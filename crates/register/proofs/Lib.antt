@@ -1,11 +1,8 @@
-pub mod AscendingLaws
 pub mod TotalLaws
-pub mod ShiftLaws
 pub mod RingLaws
 pub mod SheetLaws
 pub mod StepLaws
 pub mod ReplayLaws
 pub mod ClosingLaws
 pub mod WithoutLaws
-pub mod LookupLaws
 pub mod KeepLaws

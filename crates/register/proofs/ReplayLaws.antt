@@ -9,8 +9,7 @@
 --   kind-open, closings-turn, closings-part
 --                         how many closings up there are: none in another kind, one word more, in a part
 --   roomed, entry-closes  the words that a closing up uses, and what it then promises
---   rest-whole, numbers-turn
---                         the list of numbers after one word more: what its entry gives lies in the part from its place on
+--   numbers-turn          the list of numbers after one word more: what its entry gives lies in the part from its place on
 -- Assumes nothing.
 use mathlib.Core.Path.{_≡_, refl, sym, ap, ap₂, subst, _∙_}
 use mathlib.Core.List.{List, [], _∷_, _++_, append-assoc, append-nil}
@@ -20,7 +19,7 @@ use native.Mathlib.Numerals.{add-one}
 use native.Mathlib.Omega.{arith}
 use native.Mathlib.Decide.{decLt}
 use lib.Dec.{ltb, eqb}
-use lib.ListN.{length, take, drop, set, getD, take-append-drop, drop-of-length-le, length-drop}
+use lib.ListN.{length, take, drop, set, getD, take-append-drop, drop-of-length-le}
 use lib.Seq.{drop-length, take-suc, take-all, take-at, drop-at, drop-cons, set-at, length-take-le}
 use borrow.Rule.Slice.PartMut.{putMid, post-is}
 use borrow.Author.Tests.{lt-ltb, le-ltb, ne-eqb}
@@ -253,10 +252,6 @@ entry-closes self room k before last out r l c = record {
     lent : (take (roomMost room) before ≡ take k before) × (take (roomMost room) (last ++ drop k before) ≡ last)
         × (drop (roomMost room) (last ++ drop k before) ≡ drop (roomMost room) before)
     lent = go (decLt k (roomMost room))
-
--- the part that is lent is the rest of the list
-pub rest-whole : (l : List ℕ) (at : ℕ) → take (length l - at) (drop at l) ≡ drop at l
-rest-whole l at = take-all (length l - at) (drop at l) (omega (arith, length-drop at l))
 
 put-rest : (l part : List ℕ) (at : ℕ) → at ≤ length l → putMid at (length l - at) l part ≡ take at l ++ part
 put-rest l part at h = ap (λ (k : List ℕ). take at l ++ k) (ap (λ (k : List ℕ). part ++ k) (post-is at (length l) l h ∙ drop-length l) ∙ append-nil part)

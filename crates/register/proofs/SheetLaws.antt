@@ -22,20 +22,21 @@ use Rattle.book.specs.Causes.{Cause, no-record, locked-end, already, missing, f
 use Rattle.book.specs.Causes.{maxLinks}
 use Rattle.book.specs.Book.{Link, sameLink, Sheet, Edit, add, remove, lock, unlock, withdraw, reinstate, present, isLocked, isWithdrawn, touched, total, causes}
 use Rattle.book.specs.Book.{editAnswer, edited}
-use Rattle.book.specs.SetLaws.{eqb-test, sameLink-test, and-both, or-neither, has-in, in-has, has-without, without-self, without-other, length-without}
+use Rattle.book.specs.SetLaws.{eqb-test, sameLink-test, and-both, or-neither, has-in, in-has, has-without, without-self, without-other, length-without, or-else}
 use Rattle.book.specs.SetLaws.{without-absent}
 use Rattle.book.specs.Sheets.{Proper, Fit}
 use Rattle.book.specs.BookLaws.{first-none, first-proper, edited-fit, fit-bare}
 use Rattle.book.specs.TotalLaws.{total-add, total-remove}
-use Rattle.register.specs.Links.{linkWord, linkOf, labelUnit, Linked}
+use Rattle.links.specs.Links.{linkWord, linkOf, labelUnit, Linked}
+use Rattle.links.specs.Ascending.{insert}
 use Rattle.register.specs.Marks.{freeMark, lockMark, withdrawnMark, markOf, hasMark}
-use Rattle.register.specs.Packed.{Packed, insert, kindUnit, heldWord, takeBackKind, takeBack, Shows}
+use Rattle.register.specs.Packed.{Packed, kindUnit, heldWord, takeBackKind, takeBack, Shows}
 use Rattle.register.specs.Inner.{linkCauses}
-use Rattle.register.specs.LinkLaws.{word-test, linked-has, linked-touched}
+use Rattle.links.specs.LinkLaws.{word-test, linked-has, linked-touched}
 use Rattle.register.specs.MarkLaws.{mark-by, shows-locked, shows-withdrawn, marks-set, mark-back}
-use Rattle.register.proofs.AscendingLaws.{insert-in, insert-keeps, in-insert, length-insert, rises-insert, rises-without, length-out, without-insert}
-use Rattle.register.proofs.AscendingLaws.{insert-without}
-use Rattle.register.proofs.TotalLaws.{word-total-insert, word-total-without}
+use Rattle.links.specs.AscendingLaws.{insert-in, insert-keeps, in-insert, length-insert, rises-insert, rises-without, length-out, without-insert}
+use Rattle.links.specs.AscendingLaws.{insert-without}
+use Rattle.links.specs.TotalLaws.{word-total-insert, word-total-without}
 
 -- ---- the same cause
 unfoldable pub packedCauses : ℕ → Packed → Edit → List (Cause × Bool)
@@ -99,10 +100,6 @@ packedEdit (unlock r) p = record { links = p .links; marks = set (p .marks) r fr
 packedEdit (withdraw r) p = record { links = p .links; marks = set (p .marks) r withdrawnMark }
 packedEdit (reinstate r) p = record { links = p .links; marks = set (p .marks) r freeMark }
 
-or-either : (b c : Bool) → (b || c) ≡ true → (P : Type 0) → (b ≡ true → P) → (c ≡ true → P) → P
-or-either true c e P f g = f refl
-or-either false c e P f g = g e
-
 module _ {n : ℕ} (small : n ≤ maxRecords) where
   add-linked : {ws : List ℕ} {s : Sheet} (k : Link) → Fit n s → Linked ws s → Proper n k
       → present s k ≡ false → Linked (insert (linkWord k) ws) (edited (add k) s)
@@ -113,7 +110,7 @@ module _ {n : ℕ} (small : n ≤ maxRecords) where
         (λ e. (k, e, rw (sameLink-test .reflexive k)))
         (λ h. let r = l .sound w h in (r .0, r .1, or-right (sameLink k (r .0)) (r .2)))
         (in-insert (linkWord k) ws i);
-    whole = λ j e. or-either (sameLink k j) (present s j) e _
+    whole = λ j e. or-else (sameLink k j) (present s j) e _
         (λ q. subst (λ (i : Link). In (linkWord i) (insert (linkWord k) ws)) (sameLink-test .sound k j q) (insert-in (linkWord k) ws))
         (λ q. insert-keeps (linkWord k) (l .whole j q));
   }

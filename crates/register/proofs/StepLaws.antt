@@ -3,40 +3,52 @@
 --                      the number of a refusal is its own; an accepted call is not refused
 --   outside, inside, refuse-foreign
 --                      contents out of range represent no book, and every call refuses them with 16
---   refuse, refuse-ranged
---                      an edit that is refused, with the number by what the register keeps; the same of contents in range
+--   refuse, refused-as
+--                      an edit that is refused, with the number by what the register keeps; the same of what `refused` hands back
 --   accept             an edit that is accepted
 --   add-cause, remove-cause, add-stop, remove-stop, link-proper
 --                      the causes against an add and a remove, where those of the link are not there and where they are; with none it is proper
---   refuse-undo, back-rest
---                      undo with none held; every kind of held word but the first five takes a reinstate back
+--   remarkNumber n p r m
+--                      the number of the first cause against a change of the record r's mark
+--   remark-cause, remark-caused, remark-edit
+--                      it is that of the edit; the numbers of the table are those of causes; what is kept and held after it
+--   refuse-undo        undo with none held
+--   back-rest, back-marks
+--                      what is of no kind takes nothing back; an edit taken back that leaves the links
 --   Restored self w r  what the register that an accepted undo hands back has to be: the latest word w is taken back
 --   accept-undo        so an undo that is accepted
 --   guard-none         contents that are not in range
 --   opens, not-opens   asking for a fresh register
 -- Assumes nothing.
 use mathlib.Core.Path.{_≡_, refl, sym, ap, subst, _∙_}
-use mathlib.Core.List.{List, [], _∷_}
+use mathlib.Core.List.{List, [], _∷_, map}
 use mathlib.Core.Bool.{Bool, true, false, not, false≢true}
-use Prim.Native.Nat.{ℕ, zero, suc, _≤_, _<_}
+use Prim.Native.Nat.{ℕ, zero, suc, _+_, _≤_, _<_}
 use native.Mathlib.Omega.{arith}
 use lib.Dec.{leb, eqb}
-use lib.ListN.{length, take, set}
+use lib.ListN.{length, take, getD, set}
 use borrow.Author.Tests.{not-true, not-false}
-use Rattle.book.specs.Basics.{Rises, has}
-use Rattle.book.specs.Causes.{already, missing, full, none-held, not-open, firstNumber, number, Caused, maxRecords, maxLinks, maxHeld}
+use Rattle.book.specs.Basics.{pick, Rises, has}
+use Rattle.book.specs.Causes.{no-record, locked-end, already, missing, full, none-held, not-open, touched-record, withdrawn-record, firstNumber, number, Caused}
+use Rattle.book.specs.Causes.{maxRecords, maxLinks, maxHeld}
 use Rattle.book.specs.Book.{Link, Sheet, Book, Edit, add, remove, Call, edit, undo, editAnswer, edited, turned, undoAnswer, undone, freshAnswer, fresh, answer}
-use Rattle.book.specs.Book.{next}
+use Rattle.book.specs.Book.{next, touched}
 use Rattle.book.specs.Sheets.{Proper}
 use Rattle.book.specs.BookLaws.{caused-positive, first-proper}
-use Rattle.register.specs.Links.{linkWord}
-use Rattle.register.specs.Marks.{withdrawnMark}
+use Rattle.links.specs.Links.{linkWord, linkOf}
+use Rattle.links.specs.Ascending.{Seam, standsAt}
+use Rattle.links.specs.AscendingLaws.{seam-has}
+use Rattle.register.specs.Marks.{freeMark, withdrawnMark}
 use Rattle.register.specs.Packed.{Packed, heldWord, takeBackKind, takeBack, Shows, Piled}
 use Rattle.register.specs.Counters.{Ranged, InRange}
 use Rattle.register.specs.Representation.{heldWords, packedOf, Represents}
 use Rattle.register.specs.Calls.{answerOf, Opens, Steps}
-use Rattle.register.specs.Inner.{linkCauses, Guarded, Tallied, Kept, Holding, Changed}
+use Rattle.register.specs.Inner.{linkCauses, registerOf, outcomeOf, Remarks, locks, unlocks, withdraws, reinstates, Guarded, Tallied, Kept, Holding}
+use Rattle.register.specs.Inner.{Changed, TakenBack}
 use Rattle.register.specs.declared.Register.{Register}
+use Rattle.register.specs.declared.Counters.{Counters}
+use Rattle.register.specs.declared.Edited.{Edited}
+use Rattle.register.specs.declared.Marking.{Marking}
 use Rattle.register.specs.declared.Answer.the-variants.{Done, Refused}
 use Rattle.register.proofs.TotalLaws.{held-counted, represents-counted, counted-totals}
 use Rattle.register.proofs.SheetLaws.{packedCauses, first-append, first-stop, shows-cause, packedEdit, shows-edited, taken-back}
@@ -73,27 +85,27 @@ same-answer : (self : Register) (b : Book) (e : Edit) → Represents self b
     → firstNumber (packedCauses (self .n) (packedOf self) e) ≡ editAnswer (b .n) (b .sheet) e
 same-answer self b e h = rw (h .size) (shows-cause (subst (λ (n : ℕ). n ≤ maxRecords) (h .size) (h .ranged .size)) (h .sheet) e)
 
-module _ (self : Register) (e : Edit) where
-  pub refuse : (k : ℕ) → Caused k → ((InRange self → ⊥) → k ≡ number not-open)
-      → (InRange self → Rises 0 (packedOf self .links) → firstNumber (packedCauses (self .n) (packedOf self) e) ≡ k)
+module _ (self : Register) (inside : InRange self) (e : Edit) where
+  pub refuse : (k : ℕ) → Caused k → ((b : Book) → Represents self b → firstNumber (packedCauses (self .n) (packedOf self) e) ≡ k)
       → Steps self (edit e) (record { register = self; answer = Refused k })
   unfolding answer next turned
-  refuse zero z f p = absurd (omega (arith, caused-positive z))
-  refuse (suc k) z f p = record {
+  refuse zero z p = absurd (omega (arith, caused-positive z))
+  refuse (suc k) z p = record {
     caused = caused-as z;
     refused = λ _. refl;
-    foreign = λ o. ap answerOf (f o);
+    foreign = λ o. absurd (o inside);
     answers = λ b h. ap answerOf (sym (told b h));
     follows = λ b h. rw (told b h) h;
   }
     where
       told : (b : Book) → Represents self b → editAnswer (b .n) (b .sheet) e ≡ suc k
-      told b h = sym (same-answer self b e h) ∙ p (h .ranged) (h .sheet .links .ascending)
+      told b h = sym (same-answer self b e h) ∙ p b h
 
-  -- the same of contents in range
-  pub refuse-ranged : InRange self → (k : ℕ) → Caused k → (Rises 0 (packedOf self .links) → firstNumber (packedCauses (self .n) (packedOf self) e) ≡ k)
-      → Steps self (edit e) (record { register = self; answer = Refused k })
-  refuse-ranged i k z p = refuse k z (λ o. absurd (o i)) (λ _. p)
+-- the same of what `refused` hands back
+pub refused-as : {d : Counters} {ls ms hs ts : List ℕ} {c : Call} {k : ℕ} {r : Edited} → r ≡ record { counters = d; answer = Refused k }
+    → Steps (registerOf d ls ms hs ts) c (record { register = registerOf d ls ms hs ts; answer = Refused k })
+    → Steps (registerOf d ls ms hs ts) c (outcomeOf r ls ms hs ts)
+refused-as {d} {ls} {ms} {hs} {ts} {c} e s = subst (λ (r : Edited). Steps (registerOf d ls ms hs ts) c (outcomeOf r ls ms hs ts)) (sym e) s
 
 piled-take : (k : ℕ) (n : ℕ) (p : Packed) (ws : List ℕ) (ss : List Sheet) → Piled n p ws ss → Piled n p (take k ws) (take k ss)
 unfolding Piled
@@ -112,10 +124,10 @@ kept-room k h = (omega (arith, k .top, h .top), omega (arith, k .held, h .held))
 
 -- an accepted edit: the sheet is changed, then the edit is held
 module _ (self : Register) (e : Edit) (m r : Register) (inside : InRange self) (long : length (self .marks) ≡ maxRecords)
-    (free : Rises 0 (packedOf self .links) → firstNumber (packedCauses (self .n) (packedOf self) e) ≡ 0)
+    (free : (b : Book) → Represents self b → firstNumber (packedCauses (self .n) (packedOf self) e) ≡ 0)
     (c : Changed self (packedEdit e (packedOf self)) m) (o : Holding m (heldWord e) r) where
   none : (b : Book) → Represents self b → editAnswer (b .n) (b .sheet) e ≡ 0
-  none b h = sym (same-answer self b e h) ∙ free (h .sheet .links .ascending)
+  none b h = sym (same-answer self b e h) ∙ free b h
 
   words : heldWords r ≡ take maxHeld (heldWord e ∷ heldWords self)
   words = let k = c .kept in o .words ∙ rw (k .ring, k .top, k .held)
@@ -143,11 +155,13 @@ module _ (self : Register) (e : Edit) (m r : Register) (inside : InRange self) (
         });
   }
 
--- the causes of an add and of a remove, once those of the ends and the label are not there
-module _ (self : Register) (k : Link) (x : ℕ) (word : x ≡ linkWord k) (free : firstNumber (linkCauses (self .n) (self .marks) k) ≡ 0) (held : Bool)
-    (found : Rises 0 (packedOf self .links) → held ≡ has eqb x (packedOf self .links)) (ascends : Rises 0 (packedOf self .links)) where
+-- the causes of an add and of a remove, once those of the ends and the label are not there, by what stands at the place of the link's word
+module _ (self : Register) (k : Link) (x i : ℕ) (word : x ≡ linkWord k) (free : firstNumber (linkCauses (self .n) (self .marks) k) ≡ 0) (held : Bool)
+    (found : held ≡ standsAt (self .links) (self .count) i x) (seam : Seam x (self .links) (self .count) i) (few : self .count ≤ length (self .links))
+    (ascends : Rises 0 (packedOf self .links)) where
   has-link : has eqb (linkWord k) (packedOf self .links) ≡ held
-  has-link = ap (λ (w : ℕ). has eqb w (packedOf self .links)) (sym word) ∙ sym (found ascends)
+  has-link =
+      ap (λ (w : ℕ). has eqb w (packedOf self .links)) (sym word) ∙ sym (found ∙ seam-has x (self .links) (self .count) i few ascends seam)
 
   pub add-cause : firstNumber (packedCauses (self .n) (packedOf self) (add k))
       ≡ firstNumber ((already, held) ∷ (full, leb maxLinks (length (packedOf self .links))) ∷ [])
@@ -172,6 +186,48 @@ pub link-proper : (n : ℕ) (marks : List ℕ) (k : Link) → firstNumber (linkC
 unfolding linkCauses
 link-proper n marks k e = first-proper n k _ _ e .0
 
+-- ---- a record's mark changed, by the table of changes
+-- the number of the first cause against it, by the record's mark
+unfoldable pub remarkNumber : ℕ → Packed → ℕ → Marking → ℕ
+remarkNumber n p r m =
+    pick (leb n r) (number no-record)
+    (pick (eqb (getD (p .marks) r freeMark) (m .to)) (m .already)
+    (pick (eqb (getD (p .marks) r freeMark) (m .from))
+    (pick (eqb (m .to) withdrawnMark) (pick (touched r (map linkOf (p .links))) (number touched-record) 0) 0)
+    (m .barred)))
+
+pub remark-cause : {e : Edit} {r : ℕ} {m : Marking} → Remarks e r m → (n : ℕ) (p : Packed) (k : ℕ) → getD (p .marks) r freeMark ≡ k → k ≤ withdrawnMark
+    → firstNumber (packedCauses n p e) ≡ remarkNumber n p r m
+unfolding packedCauses firstNumber remarkNumber number
+remark-cause t n p (suc (suc (suc k))) e h = absurd (omega arith)
+remark-cause locks n p zero e h = rw e
+remark-cause locks n p (suc zero) e h = rw e
+remark-cause locks n p (suc (suc zero)) e h = rw e
+remark-cause unlocks n p zero e h = rw e
+remark-cause unlocks n p (suc zero) e h = rw e
+remark-cause unlocks n p (suc (suc zero)) e h = rw e
+remark-cause withdraws n p zero e h = rw e
+remark-cause withdraws n p (suc zero) e h = rw e
+remark-cause withdraws n p (suc (suc zero)) e h = rw e
+remark-cause reinstates n p zero e h = rw e
+remark-cause reinstates n p (suc zero) e h = rw e
+remark-cause reinstates n p (suc (suc zero)) e h = rw e
+
+pub remark-caused : {e : Edit} {r : ℕ} {m : Marking} → Remarks e r m → Caused (m .already) × Caused (m .barred)
+remark-caused locks = ((already, refl), (withdrawn-record, refl))
+remark-caused unlocks = ((missing, refl), (withdrawn-record, refl))
+remark-caused withdraws = ((already, refl), (locked-end, refl))
+remark-caused reinstates = ((missing, refl), (missing, refl))
+
+-- what is kept and what is held then
+pub remark-edit : {e : Edit} {r : ℕ} {m : Marking} → Remarks e r m → (p : Packed)
+    → (packedEdit e p ≡ record { links = p .links; marks = set (p .marks) r (m .to) }) × (heldWord e ≡ m .kind + r)
+unfolding packedEdit heldWord
+remark-edit locks p = (refl, refl)
+remark-edit unlocks p = (refl, refl)
+remark-edit withdraws p = (refl, refl)
+remark-edit reinstates p = (refl, refl)
+
 -- ---- undo
 -- nothing is held
 module _ (self : Register) (inside : InRange self) (none : heldWords self ≡ []) where
@@ -193,16 +249,23 @@ module _ (self : Register) (inside : InRange self) (none : heldWords self ≡ []
     follows = λ b h. rw (ap (undone b) (empty-pile _ _ (b .pile) (h .pile))) h;
   }
 
--- every kind but the first five takes a reinstate back
-pub back-rest : (k x : ℕ) (p : Packed) → (k ≡ 0 → ⊥) → (k ≡ 1 → ⊥) → (k ≡ 2 → ⊥) → (k ≡ 3 → ⊥) → (k ≡ 4 → ⊥)
-    → takeBackKind k x p ≡ record { links = p .links; marks = set (p .marks) x withdrawnMark }
+-- what is of no kind takes nothing back
+pub back-rest : (k x : ℕ) (p : Packed) → (k ≡ 0 → ⊥) → (k ≡ 1 → ⊥) → (k ≡ 2 → ⊥) → (k ≡ 3 → ⊥) → (k ≡ 4 → ⊥) → (k ≡ 5 → ⊥) → takeBackKind k x p ≡ p
 unfolding takeBackKind
-back-rest zero x p a b c d e = absurd (a refl)
-back-rest (suc zero) x p a b c d e = absurd (b refl)
-back-rest (suc (suc zero)) x p a b c d e = absurd (c refl)
-back-rest (suc (suc (suc zero))) x p a b c d e = absurd (d refl)
-back-rest (suc (suc (suc (suc zero)))) x p a b c d e = absurd (e refl)
-back-rest (suc (suc (suc (suc (suc k))))) x p a b c d e = refl
+back-rest zero x p a b c d e f = absurd (a refl)
+back-rest (suc zero) x p a b c d e f = absurd (b refl)
+back-rest (suc (suc zero)) x p a b c d e f = absurd (c refl)
+back-rest (suc (suc (suc zero))) x p a b c d e f = absurd (d refl)
+back-rest (suc (suc (suc (suc zero)))) x p a b c d e f = absurd (e refl)
+back-rest (suc (suc (suc (suc (suc zero))))) x p a b c d e f = absurd (f refl)
+back-rest (suc (suc (suc (suc (suc (suc k)))))) x p a b c d e f = refl
+
+-- an edit taken back that leaves links and counters, by the marks after it
+pub back-marks : (d : Counters) (ls ms hs ts vs : List ℕ) (k x : ℕ) → d .count ≤ maxLinks
+    → (Rises 0 (take (d .count) ls) → record { links = take (d .count) ls; marks = vs } ≡ takeBackKind k x (record { links = take (d .count) ls; marks = ms }))
+    → TakenBack (registerOf d ls ms hs ts) k x (registerOf d ls vs hs ts)
+back-marks d ls ms hs ts vs k x h e =
+    record { kept = record { n = refl; ring = refl; top = refl; held = refl; count = h }; sheet = λ r _. e r; counted = λ _ t. t }
 
 -- what the register that an accepted undo hands back has to be: the latest word w is taken back
 pub record Restored (self : Register) (w : ℕ) (r : Register) : Type 0 where

@@ -25,18 +25,19 @@ use Rattle.book.specs.ListLaws.{in-none, in-front}
 use Rattle.book.specs.SetLaws.{eqb-test, sameLink-test, and-both, has-in, in-has, has-without, distinct-without}
 use Rattle.book.specs.Sheets.{Distinct, Fit}
 use Rattle.book.specs.TotalLaws.{tally-le, tally-without}
-use Rattle.register.specs.Links.{linkWord, linkOf, labelUnit, wordTotal, Linked}
-use Rattle.register.specs.LinkLaws.{word-link}
+use Rattle.links.specs.Links.{linkWord, linkOf, labelUnit, wordTotal, Linked}
+use Rattle.links.specs.Totals.{Lowered, TotalsOf}
+use Rattle.links.specs.LinkLaws.{word-link}
 use Rattle.register.specs.Marks.{freeMark, markOf}
 use Rattle.register.specs.Packed.{Shows, Piled}
 use Rattle.register.specs.Representation.{latest, packedOf, Represents}
-use Rattle.register.specs.Inner.{Lowered}
 use Rattle.register.specs.PartingLaws.{filter-in, in-filter, length-filter, tally-filter, filter-append, rises-filter, has-filter, filter-has}
 use Rattle.register.specs.PartingLaws.{distinct-filter}
 use Rattle.register.specs.Parting.{filter, apart, withoutLinks, withoutRecord}
-use Rattle.register.specs.Apart.{apartWord, TotalsOf, Kept}
+use Rattle.register.specs.Apart.{apartWord, Kept}
 use Rattle.register.specs.declared.Register.{Register}
-use Rattle.register.proofs.TotalLaws.{rises-distinct, represents-counted}
+use Rattle.links.specs.TotalLaws.{rises-distinct}
+use Rattle.register.proofs.TotalLaws.{represents-counted}
 
 -- ---- words of links and the links, each once: as many pass a test
 linked-tally : (t : Link → Bool) (ks : List Link) (ws : List ℕ) → Distinct sameLink ks → Distinct eqb ws

@@ -15,7 +15,7 @@ use Prim.Native.Nat.{ℕ, _≤_, _<_}
 use lib.ListN.{length, getD}
 use Rattle.book.specs.Causes.{maxRecords}
 use Rattle.book.specs.Book.{rank, renamedLink}
-use Rattle.register.specs.Links.{linkWord, linkOf}
+use Rattle.links.specs.Links.{linkWord, linkOf}
 use Rattle.register.specs.History.{roomMost}
 use Rattle.register.specs.Marks.{freeMark, lockMark, withdrawnMark, hasMark}
 

@@ -1,6 +1,6 @@
 -- The history theorem: whatever calls are made, refused ones included, the answers and the lists given are the book's, and the register at the end represents
 -- the book at the end. And laws of a history as words.
---   number-answer, answer-done
+--   number-answer, answer-done, by-number
 --                     an answer and its number
 --   answered, kept, given-lent
 --                     of calls made one after the other: the numbers told, the register at the end and the lists lent are the book's
@@ -30,7 +30,7 @@ use Rattle.book.specs.Causes.{labels, number, firstNumber, maxRecords}
 use Rattle.book.specs.Book.{sameLink, Sheet, Book, add, remove, lock, unlock, withdraw, reinstate, Call, edit, undo, close, isLocked, isWithdrawn, total}
 use Rattle.book.specs.Book.{answer, next, freshAnswer, fresh, answers, after, givens}
 use Rattle.book.specs.Sheets.{Distinct, Fit, Sound}
-use Rattle.register.specs.Links.{Linked}
+use Rattle.links.specs.Links.{Linked}
 use Rattle.register.specs.Marks.{lockMark, withdrawnMark, hasMark}
 use Rattle.register.specs.Packed.{Packed, takeBack, Piled}
 use Rattle.register.specs.Representation.{heldWords, packedOf, Represents}
@@ -43,7 +43,7 @@ use Rattle.register.specs.History.{wordAnswers, callsOf, toldCalls}
 use Rattle.register.specs.Made.{MadeBy}
 use Rattle.register.specs.declared.Register.{Register}
 use Rattle.register.specs.declared.Answer.{Answer}
-use Rattle.register.specs.declared.Answer.the-variants.{Done}
+use Rattle.register.specs.declared.Answer.the-variants.{Done, Refused}
 
 pub number-answer : (k : ℕ) → answerNumber (answerOf k) ≡ k
 number-answer zero = refl
@@ -52,6 +52,10 @@ number-answer (suc k) = refl
 pub answer-done : (a : Answer) (k : ℕ) → a ≡ answerOf k → answerNumber a ≡ 0 → a ≡ Done
 answer-done a zero e z = e
 answer-done a (suc k) e z = absurd (omega (arith, ap answerNumber e, z))
+
+pub by-number : (a : Answer) (k : ℕ) → k ≡ answerNumber a → (k ≡ 0 → ⊥) → a ≡ Refused k
+by-number Done k e z = absurd (z e)
+by-number (Refused j) k e z = ap Refused (sym e)
 
 told-more : (a : Answer) (k : ℕ) {told rest : List ℕ} → a ≡ answerOf k → told ≡ rest → answerNumber a ∷ told ≡ k ∷ rest
 told-more a k e t = ap₂ (λ (x : ℕ) (l : List ℕ). x ∷ l) (ap answerNumber e ∙ number-answer k) t

@@ -1,56 +1,52 @@
 -- What the inner functions of the register promise one another.
---   putAt i x l           x before what stands at the place i
---   cutAt i l             l without what stands at the place i
---   Seam x ws c i         i is a place for x among the first c words: the word before it is below x, and the word at it is not
---   standsAt ws c i x     whether i is one of the first c places and x stands there
 --   linkCauses n marks k  the causes against the ends and the label of a link, in their order
---   hasAt unit r w        whether a word has the record r in the ten bits from unit on
---   Guarded, Checks, Holding, Changed, TakenBack
---                         what `ranged`, `check_link`, `hold`, the inner edits and `taken_back` promise
---   Raised l ts us, Lowered l ts us
---                         what `raise` and `lower` promise: one more and one less of the label l, where the total has room for it
+--   Guarded n c t h ok    what `ranged` promises
+--   registerOf c links marks ring totals
+--                         the register of counters and arrays
+--   outcomeOf e links marks ring totals
+--                         the outcome of an edit of arrays, with what they hold then
+--   Whole c ls ms hs
+--                         the counters are in range, and the arrays as long as a register's
+--   Remarks e r m         the edit e of the record r is the change of its mark m
+--   Holding self w r      what `hold` promises
+--   Kept self r           all but the sheet is as it was
 --   Tallied r             the totals of the register are those of its links' words
+--   Changed self p r, TakenBack self kind x r
+--                         what the inner edits and `taken_back` promise
 --   Formed ws             the words of a register, as they are told: enough of them, the counters in range, each mark one of the three
 --   KeepsOne ws           the front of ws is the words of a register
 --   SizeIn ws n           n is the size of the register whose words are ws, 0 if they are no register's, and at most 1,024
 --   markIn ws x           the mark of the record x, as it stands among any words
 --   Shown ws f l          of a register's words l is f of that register
 --   Tested P ok           ok is whether P
+--   DraftSteps self e out what is promised of an entry of a draft: of a call what `Steps` says; no call is refused with 15 and changes nothing
+--   Reached self ws r     from the register self on, every word of ws was accepted, and they led to the register r
 -- Assumes nothing: these are definitions.
 use mathlib.Core.Path.{_≡_}
-use mathlib.Core.List.{List, _∷_, [], _++_}
-use mathlib.Core.Bool.{Bool, true, false, _||_, _&&_}
-use Prim.Native.Nat.{ℕ, suc, _+_, _/_, _%_, _≤_, _<_}
-use lib.ListN.{length, take, drop, getD}
-use lib.Dec.{leb, ltb, eqb}
-use Rattle.book.specs.Basics.{bit, Rises}
-use Rattle.book.specs.Causes.{Cause, no-record, bad-label, locked-end, not-open, withdrawn-record, number, Caused, firstNumber, labels, maxRecords, maxLinks}
+use mathlib.Core.List.{List, _∷_, []}
+use mathlib.Core.Bool.{Bool, true, false, _||_}
+use Prim.Native.Nat.{ℕ, _*_, _≤_, _<_}
+use lib.ListN.{length, take, drop, getD, replicate}
+use lib.Dec.{leb}
+use Rattle.book.specs.Basics.{Rises}
+use Rattle.book.specs.Causes.{Cause, no-record, bad-label, locked-end, already, missing, withdrawn-record, unknown-kind, number, labels, maxRecords, maxLinks}
 use Rattle.book.specs.Causes.{maxHeld}
-use Rattle.book.specs.Book.{Link}
-use Rattle.register.specs.Links.{linkWord, wordTotal}
+use Rattle.book.specs.Book.{Link, Book, Call, Edit, lock, unlock, withdraw, reinstate}
+use Rattle.links.specs.Links.{wordTotal}
 use Rattle.register.specs.Marks.{freeMark, lockMark, withdrawnMark, hasMark, Marked}
-use Rattle.register.specs.Packed.{Packed, takeBackKind}
+use Rattle.register.specs.Packed.{Packed, kindUnit, takeBackKind}
 use Rattle.register.specs.Counters.{Ranged}
-use Rattle.register.specs.Representation.{heldWords, packedOf}
+use Rattle.register.specs.Representation.{heldWords, packedOf, Represents}
+use Rattle.register.specs.Calls.{answerOf, Steps}
+use Rattle.register.specs.History.{CallsMade, Entry, is-call, no-call}
+use Rattle.register.specs.Drafts.{draftCalls, draftNumbers}
 use Rattle.register.specs.Questions.{Sized}
 use Rattle.register.specs.Words.{stateWords, marksAt, Keeps, OfWords}
 use Rattle.register.specs.declared.Register.{Register}
-use Rattle.register.specs.declared.LinkCheck.{LinkCheck}
-use Rattle.register.specs.declared.LinkCheck.the-variants.{Word, Fault}
-
-unfoldable pub putAt : ℕ → ℕ → List ℕ → List ℕ
-putAt i x l = take i l ++ (x ∷ drop i l)
-
-unfoldable pub cutAt : ℕ → List ℕ → List ℕ
-cutAt i l = take i l ++ drop (suc i) l
-
-pub record Seam (x : ℕ) (ws : List ℕ) (c i : ℕ) : Type 0 where
-  pub within : i ≤ c
-  pub low : (j : ℕ) → suc j ≡ i → getD ws j 0 < x
-  pub high : i < c → x ≤ getD ws i 0
-
-unfoldable pub standsAt : List ℕ → ℕ → ℕ → ℕ → Bool
-standsAt ws c i x = ltb i c && eqb (getD ws i 0) x
+use Rattle.register.specs.declared.Counters.{Counters}
+use Rattle.register.specs.declared.Edited.{Edited}
+use Rattle.register.specs.declared.Outcome.{Outcome}
+use Rattle.register.specs.declared.Marking.{Marking}
 
 unfoldable pub linkCauses : ℕ → List ℕ → Link → List (Cause × Bool)
 linkCauses n marks k =
@@ -59,18 +55,33 @@ linkCauses n marks k =
     (bad-label, leb labels (k .label)) ∷
     (locked-end, hasMark lockMark marks (k .from) || hasMark lockMark marks (k .to)) ∷ []
 
-unfoldable pub hasAt : ℕ → ℕ → ℕ → Bool
-hasAt unit r w = eqb (w / unit % 1024) r
-
 pub record Guarded (n c t h : ℕ) (ok : Bool) : Type 0 where
   pub sure : ok ≡ true → Ranged n c t h
   pub none : ok ≡ false → Ranged n c t h → ⊥
 
--- a fault is the number of a refusal: of a register in range that of the first cause, of any other contents that of no register;
--- a word is the link's, with no cause so far
-abbrev pub Checks : ℕ → ℕ → ℕ → ℕ → List ℕ → Link → LinkCheck → Type 0
-Checks n c t h marks k (Fault z) = Caused z × (Ranged n c t h → z ≡ firstNumber (linkCauses n marks k)) × ((Ranged n c t h → ⊥) → z ≡ number not-open)
-Checks n c t h marks k (Word x) = Ranged n c t h × (x ≡ linkWord k) × (firstNumber (linkCauses n marks k) ≡ 0)
+abbrev pub registerOf : Counters → (links marks ring totals : List ℕ) → Register
+registerOf c links marks ring totals =
+    record { n = c .n; count = c .count; links = links; marks = marks; ring = ring; top = c .top; held = c .held; totals = totals }
+
+abbrev pub outcomeOf : Edited → (links marks ring totals : List ℕ) → Outcome
+outcomeOf e links marks ring totals = record { register = registerOf (e .counters) links marks ring totals; answer = e .answer }
+
+pub record Whole (c : Counters) (ls ms hs : List ℕ) : Type 0 where
+  pub ranged : Ranged (c .n) (c .count) (c .top) (c .held)
+  pub links : length ls ≡ maxLinks
+  pub marks : length ms ≡ maxRecords
+  pub ring : length hs ≡ maxHeld
+
+-- from, to, the cause if the record has the second mark already, the cause if it has another, the kind that is held
+pub data Remarks : Edit → ℕ → Marking → Type 0 where
+  locks : {r : ℕ} → Remarks (lock r) r
+      (record { from = freeMark; to = lockMark; already = number already; barred = number withdrawn-record; kind = 2 * kindUnit })
+  unlocks : {r : ℕ} → Remarks (unlock r) r
+      (record { from = lockMark; to = freeMark; already = number missing; barred = number withdrawn-record; kind = 3 * kindUnit })
+  withdraws : {r : ℕ} → Remarks (withdraw r) r
+      (record { from = freeMark; to = withdrawnMark; already = number already; barred = number locked-end; kind = 4 * kindUnit })
+  reinstates : {r : ℕ} → Remarks (reinstate r) r
+      (record { from = withdrawnMark; to = freeMark; already = number missing; barred = number missing; kind = 5 * kindUnit })
 
 -- one more word is held, and the oldest is forgotten where 256 were
 pub record Holding (self : Register) (w : ℕ) (r : Register) : Type 0 where
@@ -89,12 +100,6 @@ pub record Kept (self r : Register) : Type 0 where
   pub top : r .top ≡ self .top
   pub held : r .held ≡ self .held
   pub count : r .count ≤ maxLinks
-
-pub record Raised (l : ℕ) (ts us : List ℕ) : Type 0 where
-  pub more : (j : ℕ) → j < labels → getD ts j 0 < maxLinks → getD us j 0 ≡ bit (eqb l j) + getD ts j 0
-
-pub record Lowered (l : ℕ) (ts us : List ℕ) : Type 0 where
-  pub less : (j : ℕ) → j < labels → bit (eqb l j) ≤ getD ts j 0 → getD ts j 0 ≡ bit (eqb l j) + getD us j 0
 
 abbrev pub Tallied : Register → Type 0
 Tallied r = (l : ℕ) → l < labels → getD (r .totals) l 0 ≡ wordTotal l (packedOf r .links)
@@ -131,3 +136,11 @@ Shown ws f l = (r : Register) → Keeps ws r → l ≡ f r
 pub record Tested (P : Type 0) (ok : Bool) : Type 0 where
   pub sure : ok ≡ true → P
   pub none : ok ≡ false → P → ⊥
+
+pub data DraftSteps (self : Register) : Entry → Outcome → Type 0 where
+  steps : {c : Call} {out : Outcome} → Steps self c out → DraftSteps self (is-call c) out
+  turned-down : {out : Outcome} → out .answer ≡ answerOf (number unknown-kind) → out .register ≡ self → DraftSteps self no-call out
+
+pub record Reached (self : Register) (ws : List ℕ) (r : Register) : Type 0 where
+  pub made : CallsMade self (draftCalls ws) (replicate (length ws) 0) [] r
+  pub numbers : (b : Book) → Represents self b → draftNumbers b ws ≡ replicate (length ws) 0

@@ -14,7 +14,7 @@ use mathlib.Core.Bool.{Bool, true, false}
 use Prim.Native.Nat.{ℕ, suc, _+_, _*_, _≤_}
 use native.Mathlib.Omega.{arith}
 use lib.Dec.{ltb}
-use lib.ListN.{length, take, drop, length-append, length-drop, take-append-drop}
+use lib.ListN.{length, take, drop, length-drop, take-append-drop}
 use lib.Seq.{length-take-le, take-at, drop-at, drop-append-le, take-append-add, drop-append-add, drop-drop}
 use borrow.Author.Tests.{ltb-true, ltb-false}
 use Rattle.book.specs.Basics.{pick, over, All, all-none, all-more, tally}
@@ -24,6 +24,7 @@ use Rattle.book.specs.BookLaws.{first-none, next-sound, fresh-sound}
 use Rattle.book.specs.SetLaws.{or-neither}
 use Rattle.book.specs.GivenLaws.{room-same, given-length}
 use Rattle.book.specs.Sheets.{Sound}
+use Rattle.book.specs.ListLaws.{length-over}
 use Rattle.register.specs.Calls.{answerOf}
 use Rattle.register.specs.History.{Lent, Gives, none-given, more-given, Entry, is-call, no-call, entryNumber, entryNext, roomMost, EntrySteps, entryCalls}
 use Rattle.register.specs.History.{callsOf, isClose, closings, laid, parts, replayNumber, Replays}
@@ -58,9 +59,6 @@ givens-short b (close room ∷ cs) o =
     all-more {x = given b (close room)} (omega (arith, given-length b room .0, o .small)) (givens-short (next b (close room)) cs (next-sound b (close room) o))
 
 -- ---- a list written over a front
-length-over : (g l : List ℕ) → length g ≤ length l → length (over g l) ≡ length l
-length-over g l h = length-append g (drop (length g) l) ∙ omega (arith, length-drop (length g) l)
-
 -- written over the first k words, and the rest behind them
 over-take : (g l : List ℕ) (k : ℕ) → length g ≤ k → k ≤ length l → over g (take k l) ++ drop k l ≡ over g l
 over-take g l k p q =

@@ -1,4 +1,3 @@
-pub mod Links
 pub mod Marks
 pub mod Packed
 pub mod Counters
@@ -8,16 +7,17 @@ pub mod Entries
 pub mod History
 pub mod Made
 pub mod Questions
-pub mod Lookups
 pub mod Words
+pub mod Drafts
 pub mod Inner
 pub mod Closing
 pub mod Parting
 pub mod Apart
 pub mod MarkLaws
-pub mod LinkLaws
 pub mod HistoryLaws
 pub mod EntryLaws
 pub mod LaidLaws
 pub mod WordLaws
 pub mod PartingLaws
+pub mod DraftLaws
+pub mod Reads

@@ -1,6 +1,5 @@
 -- A sheet as the register keeps it, and what a held edit takes back: the means by which a register is related to a book.
 --   Packed           the links' words, and the mark of each record
---   insert x l       x put in before the first number of l that is not below it
 --   kindUnit         a held word is its kind times this, plus the link's word or the record
 --   heldWord e       the word that is held for an edit
 --   takeBackKind, takeBack
@@ -12,20 +11,17 @@ use mathlib.Core.Path.{_≡_}
 use mathlib.Core.List.{List, [], _∷_}
 use Prim.Native.Nat.{ℕ, zero, suc, _+_, _*_, _/_, _%_}
 use lib.ListN.{length, getD, set}
-use lib.Dec.{eqb, ltb}
-use Rattle.book.specs.Basics.{pick, without}
+use lib.Dec.{eqb}
+use Rattle.book.specs.Basics.{without}
 use Rattle.book.specs.Book.{Sheet, Edit, add, remove, lock, unlock, withdraw, reinstate, total}
 use Rattle.book.specs.Sheets.{Fit}
-use Rattle.register.specs.Links.{linkWord, wordTotal, Linked}
+use Rattle.links.specs.Links.{linkWord, wordTotal, Linked}
+use Rattle.links.specs.Ascending.{insert}
 use Rattle.register.specs.Marks.{freeMark, lockMark, withdrawnMark, markOf}
 
 pub record Packed : Type 0 where
   pub links : List ℕ
   pub marks : List ℕ
-
-unfoldable pub insert : ℕ → List ℕ → List ℕ
-insert x [] = x ∷ []
-insert x (y ∷ ys) = pick (ltb y x) (y ∷ insert x ys) (x ∷ y ∷ ys)
 
 abbrev pub kindUnit : ℕ
 kindUnit = 33554432
@@ -45,7 +41,8 @@ takeBackKind (suc zero) x p = record { links = insert x (p .links); marks = p .m
 takeBackKind (suc (suc zero)) x p = record { links = p .links; marks = set (p .marks) x freeMark }
 takeBackKind (suc (suc (suc zero))) x p = record { links = p .links; marks = set (p .marks) x lockMark }
 takeBackKind (suc (suc (suc (suc zero)))) x p = record { links = p .links; marks = set (p .marks) x freeMark }
-takeBackKind (suc (suc (suc (suc (suc k))))) x p = record { links = p .links; marks = set (p .marks) x withdrawnMark }
+takeBackKind (suc (suc (suc (suc (suc zero))))) x p = record { links = p .links; marks = set (p .marks) x withdrawnMark }
+takeBackKind (suc (suc (suc (suc (suc (suc k)))))) x p = p
 
 abbrev pub takeBack : ℕ → Packed → Packed
 takeBack w p = takeBackKind (w / kindUnit) (w % kindUnit) p

@@ -20,7 +20,7 @@ use Rattle.book.specs.Book.{Sheet, Book, isLocked, isWithdrawn, total, totalNum
 use Rattle.answers.specs.Answers.{answered}
 use Rattle.answers.specs.declared.Counted.{Counted}
 use Rattle.answers.specs.declared.Counted.the-variants.{Count, Refused}
-use Rattle.register.specs.Links.{Linked}
+use Rattle.links.specs.Links.{Linked}
 use Rattle.register.specs.Marks.{freeMark, markOf}
 use Rattle.register.specs.Counters.{InRange}
 use Rattle.register.specs.Representation.{Represents}

@@ -2,15 +2,15 @@
 // specs/Calls.antt, what the functions here promise one another in specs/Closing.antt.
 use crate::Answer;
 use crate::FREE_MARK;
-use crate::FROM_UNIT;
 use crate::LOCK_MARK;
 use crate::Outcome;
 use crate::Register;
 use crate::WITHDRAWN_MARK;
-use crate::fields::from_of;
-use crate::fields::label_of;
-use crate::fields::to_of;
 use crate::state::ranged;
+use links::FROM_UNIT;
+use links::from_of;
+use links::label_of;
+use links::to_of;
 ghost use mathlib.Core.Path.{_≡_};
 ghost use mathlib.Core.List.{map, _++_};
 ghost use Prim.Native.Nat.{_≤_};

@@ -1,15 +1,16 @@
-// The calls that edit a register: add, remove, lock, unlock, withdraw, reinstate, undo, and apply for any of them. What they
-// promise is stated in specs/Calls.antt.
+// The calls that edit a register: add, remove, lock, unlock, withdraw, reinstate, undo, and apply for any of them. All are one edit of the register's arrays
+// in place; a refused one leaves them. What they promise is stated in specs/Calls.antt.
 use crate::Answer;
 use crate::Call;
+use crate::Counters;
+use crate::Edited;
 use crate::FREE_MARK;
-use crate::FROM_UNIT;
 use crate::KIND_UNIT;
 use crate::LABELS;
 use crate::LAST_HELD;
 use crate::LOCK_MARK;
 use crate::LOCKED;
-use crate::LinkCheck;
+use crate::Marking;
 use crate::Outcome;
 use crate::REINSTATED;
 use crate::REMOVED;
@@ -17,27 +18,29 @@ use crate::Register;
 use crate::UNLOCKED;
 use crate::WITHDRAWN;
 use crate::WITHDRAWN_MARK;
-use crate::questions::touched;
-use crate::sorted::cut;
-use crate::sorted::holds;
-use crate::sorted::place;
-use crate::sorted::put;
-use crate::sorted::stands;
 use crate::state::ranged;
-use crate::totals::lower;
-use crate::totals::raise;
+use links::cut;
+use links::link_word;
+use links::lower_bound;
+use links::lower_total;
+use links::put;
+use links::raise_total;
+use links::stands;
+use links::touched;
 ghost use mathlib.Core.Path.{_≡_};
-ghost use Prim.Native.Nat.{_≤_, _<_};
-ghost use lib.ListN.{length, set};
+ghost use mathlib.Core.Bool.{true};
+ghost use mathlib.Core.List.{List};
+ghost use Prim.Native.Nat.{ℕ, _*_, _≤_, _<_};
+ghost use lib.ListN.{length, take, set};
 ghost use lib.Dec.{eqb};
 ghost use Rattle.book.specs.Basics.{without};
-ghost use Rattle.book.specs.Causes.{firstNumber, maxRecords, labels, maxLinks, maxHeld};
-ghost use Rattle.book.specs.Book.{add, remove, lock, unlock, withdraw, reinstate, edit, undo};
-ghost use Rattle.register.specs.Links.{linkWord};
-ghost use Rattle.register.specs.Packed.{insert};
-ghost use Rattle.register.specs.Representation.{packedOf};
+ghost use Rattle.book.specs.Causes.{firstNumber, maxRecords, maxLinks, maxHeld, labels};
+ghost use Rattle.book.specs.Book.{Edit, add, remove, lock, unlock, withdraw, reinstate, edit, undo};
+ghost use Rattle.links.specs.Ascending.{insert, Seam, standsAt};
+ghost use Rattle.register.specs.Packed.{kindUnit};
 ghost use Rattle.register.specs.Calls.{callOf, Steps};
-ghost use Rattle.register.specs.Inner.{linkCauses, Checks, Holding, Changed, TakenBack};
+ghost use Rattle.register.specs.declared.Answer.the-variants.{Refused};
+ghost use Rattle.register.specs.Inner.{linkCauses, registerOf, outcomeOf, Whole, Holding, Changed, TakenBack, Remarks};
 
 // The first cause against the ends and the label of a link, or 0.
 fn link_cause(n: u16, marks: &[u32], from: u16, label: u8, to: u16) -> u32
@@ -68,14 +71,6 @@ fn link_cause(n: u16, marks: &[u32], from: u16, label: u8, to: u16) -> u32
     0
 }
 
-// A link's word.
-fn link_word(from: u16, label: u8, to: u16) -> u32
-    requires { ⌜ (from < maxRecords) × (label < labels) × (to < maxRecords) ⌝ }
-    ensures { λ r. ⌜ r ≡ linkWord (record { from = from; label = label; to = to }) ⌝ }
-{
-    (label as u32 * FROM_UNIT + from as u32) * FROM_UNIT + to as u32
-}
-
 // A link as it is named in a call.
 struct LinkParts {
     from: u16,
@@ -83,362 +78,441 @@ struct LinkParts {
     to: u16,
 }
 
-// The register's numbers, then the link's ends and label.
-fn check_link(
-    n: u16,
-    count: usize,
-    top: usize,
-    held: usize,
+// A refused edit: the counters as they were, and the number of the cause.
+fn refused(counters: Counters, number: u32) -> Edited
+    ensures { λ r. ⌜ r ≡ record { counters = counters; answer = Refused number } ⌝ }
+{
+    Edited {
+        counters,
+        answer: Answer::Refused(number),
+    }
+}
+
+// The edit of a word is held, in the place of the oldest where 256 are.
+fn hold(counters: Counters, ring: &mut [u32; book::MAX_HELD], word: u32) -> Counters
+    requires { ⌜ (counters .top < maxHeld) × (counters .held ≤ maxHeld) × (length (now ring) ≡ maxHeld) ⌝ }
+    ensures { λ r. ⌜ ((links marks totals : List ℕ) → Holding (registerOf counters links marks (now (ring .entry)) totals) word
+        (registerOf r links marks (now (ring .exit)) totals)) ⌝ }
+{
+    let top = counters.top;
+    let mut next = top + 1;
+    if next == book::MAX_HELD {
+        next = 0;
+    }
+    ring[top] = word;
+    let mut held = counters.held;
+    if held < book::MAX_HELD {
+        held += 1;
+    }
+    Counters {
+        n: counters.n,
+        count: counters.count,
+        top: next,
+        held,
+    }
+}
+
+// The link of a word put in at its place, and its label's total with it.
+fn put_in(
+    counters: Counters,
+    links: &mut [u32; book::MAX_LINKS],
+    totals: &mut [u32; book::LABELS],
+    at: usize,
+    x: u32,
+) -> Counters
+    requires { ⌜ (counters .count < maxLinks) × (length (now links) ≡ maxLinks) × (length (now totals) ≡ labels) × Seam x (now links) (counters .count) at ⌝ }
+    ensures { λ r. ⌜ ((marks ring : List ℕ) → Changed (registerOf counters (now (links .entry)) marks ring (now (totals .entry)))
+        (record { links = insert x (take (counters .count) (now (links .entry))); marks = marks })
+        (registerOf r (now (links .exit)) marks ring (now (totals .exit)))) ⌝ }
+{
+    let count = counters.count;
+    put(links, count, at, x);
+    raise_total(totals, x);
+    Counters {
+        n: counters.n,
+        count: count + 1,
+        top: counters.top,
+        held: counters.held,
+    }
+}
+
+// The link of a word taken out where it stands, and of its label's total.
+fn take_out(
+    counters: Counters,
+    links: &mut [u32; book::MAX_LINKS],
+    totals: &mut [u32; book::LABELS],
+    at: usize,
+    x: u32,
+) -> Counters
+    requires { ⌜ (counters .count ≤ maxLinks) × (length (now links) ≡ maxLinks) × (length (now totals) ≡ labels) × Seam x (now links) (counters .count) at
+        × (standsAt (now links) (counters .count) at x ≡ true) ⌝ }
+    ensures { λ r. ⌜ ((marks ring : List ℕ) → Changed (registerOf counters (now (links .entry)) marks ring (now (totals .entry)))
+        (record { links = without eqb x (take (counters .count) (now (links .entry))); marks = marks })
+        (registerOf r (now (links .exit)) marks ring (now (totals .exit)))) ⌝ }
+{
+    let count = counters.count;
+    cut(links, count, at);
+    lower_total(totals, x);
+    Counters {
+        n: counters.n,
+        count: count - 1,
+        top: counters.top,
+        held: counters.held,
+    }
+}
+
+// A record's mark; a number that is no record's is passed over.
+fn set_mark(counters: Counters, marks: &mut [u32; book::MAX_RECORDS], x: u32, mark: u32) -> Counters
+    requires { ⌜ (counters .count ≤ maxLinks) × (length (now marks) ≡ maxRecords) ⌝ }
+    ensures { λ r. ⌜ ((links ring totals : List ℕ) → Changed (registerOf counters links (now (marks .entry)) ring totals)
+        (record { links = take (counters .count) links; marks = set (now (marks .entry)) x mark }) (registerOf r links (now (marks .exit)) ring totals)) ⌝ }
+{
+    let i = x as usize;
+    if i < book::MAX_RECORDS {
+        marks[i] = mark;
+    }
+    counters
+}
+
+// An edit taken back, by its kind; what is of no kind is left.
+fn taken_back(
+    counters: Counters,
+    links: &mut [u32; book::MAX_LINKS],
+    marks: &mut [u32; book::MAX_RECORDS],
+    totals: &mut [u32; book::LABELS],
+    kind: u32,
+    x: u32,
+) -> Counters
+    requires { ⌜ (counters .count ≤ maxLinks) × (length (now links) ≡ maxLinks) × (length (now marks) ≡ maxRecords) × (length (now totals) ≡ labels) ⌝ }
+    ensures { λ r. ⌜ ((ring : List ℕ) → TakenBack (registerOf counters (now (links .entry)) (now (marks .entry)) ring (now (totals .entry))) «kind» x
+        (registerOf r (now (links .exit)) (now (marks .exit)) ring (now (totals .exit)))) ⌝ }
+{
+    let count = counters.count;
+    match kind {
+        0 => {
+            let at = lower_bound(links, count, x);
+            if !stands(links, count, at, x) {
+                return counters;
+            }
+            take_out(counters, links, totals, at, x)
+        }
+        1 => {
+            if book::MAX_LINKS <= count {
+                return counters;
+            }
+            let at = lower_bound(links, count, x);
+            put_in(counters, links, totals, at, x)
+        }
+        2 => set_mark(counters, marks, x, FREE_MARK),
+        3 => set_mark(counters, marks, x, LOCK_MARK),
+        4 => set_mark(counters, marks, x, FREE_MARK),
+        5 => set_mark(counters, marks, x, WITHDRAWN_MARK),
+        _ => counters,
+    }
+}
+
+// A link put in: 2, 18, 3, 4, 5 or 7 if it cannot be.
+fn add(
+    counters: Counters,
+    links: &mut [u32; book::MAX_LINKS],
     marks: &[u32],
+    ring: &mut [u32; book::MAX_HELD],
+    totals: &mut [u32; book::LABELS],
     link: LinkParts,
-) -> LinkCheck
-    requires { ⌜ length (now marks) ≡ maxRecords ⌝ }
-    ensures { λ r. ⌜ Checks n count top held (now (marks .entry)) (record { from = link .from; label = link .label; to = link .to }) r ⌝ }
+) -> Edited
+    requires { ⌜ Whole counters (now links) (now marks) (now ring) × (length (now totals) ≡ labels) ⌝ }
+    ensures { λ r. ⌜ Steps (registerOf counters (now (links .entry)) (now (marks .entry)) (now (ring .entry)) (now (totals .entry)))
+        (edit (add (record { from = link .from; label = link .label; to = link .to })))
+        (outcomeOf r (now (links .exit)) (now (marks .entry)) (now (ring .exit)) (now (totals .exit))) ⌝ }
 {
     let from = link.from;
     let label = link.label;
     let to = link.to;
-    if !ranged(n, count, top, held) {
-        return LinkCheck::Fault(book::NOT_OPEN);
-    }
-    let cause = link_cause(n, marks, from, label, to);
+    let cause = link_cause(counters.n, marks, from, label, to);
+    // the causes of the ends, a lock among them, were looked for before anything is written or held
     if cause != 0 {
-        return LinkCheck::Fault(cause);
+        return refused(counters, cause);
     }
-    LinkCheck::Word(link_word(from, label, to))
+    let x = link_word(from, label, to);
+    let count = counters.count;
+    let at = lower_bound(links, count, x);
+    if stands(links, count, at, x) {
+        return refused(counters, book::ALREADY);
+    }
+    if book::MAX_LINKS <= count {
+        return refused(counters, book::FULL);
+    }
+    let changed = put_in(counters, links, totals, at, x);
+    Edited {
+        counters: hold(changed, ring, x),
+        answer: Answer::Done, // the link is in
+    }
 }
 
-// Contents that no call of the engine made, whose numbers are out of range, are refused with 16 and handed back as they were.
+// A link taken out: 2, 18, 3, 4 or 6 if it cannot be.
+fn remove(
+    counters: Counters,
+    links: &mut [u32; book::MAX_LINKS],
+    marks: &[u32],
+    ring: &mut [u32; book::MAX_HELD],
+    totals: &mut [u32; book::LABELS],
+    link: LinkParts,
+) -> Edited
+    requires { ⌜ Whole counters (now links) (now marks) (now ring) × (length (now totals) ≡ labels) ⌝ }
+    ensures { λ r. ⌜ Steps (registerOf counters (now (links .entry)) (now (marks .entry)) (now (ring .entry)) (now (totals .entry)))
+        (edit (remove (record { from = link .from; label = link .label; to = link .to })))
+        (outcomeOf r (now (links .exit)) (now (marks .entry)) (now (ring .exit)) (now (totals .exit))) ⌝ }
+{
+    let from = link.from;
+    let label = link.label;
+    let to = link.to;
+    let cause = link_cause(counters.n, marks, from, label, to);
+    if cause != 0 {
+        return refused(counters, cause);
+    }
+    let x = link_word(from, label, to);
+    let count = counters.count;
+    let at = lower_bound(links, count, x);
+    if !stands(links, count, at, x) {
+        return refused(counters, book::MISSING);
+    }
+    let changed = take_out(counters, links, totals, at, x);
+    Edited {
+        counters: hold(changed, ring, REMOVED + x),
+        answer: Answer::Done,
+    }
+}
+
+// The changes of a record's mark: from which to which; the causes if the record has the second already, and if it has another; and what is held.
+const LOCKING: Marking = Marking {
+    from: FREE_MARK,
+    to: LOCK_MARK,
+    already: book::ALREADY,
+    barred: book::WITHDRAWN_RECORD,
+    kind: LOCKED,
+};
+
+const UNLOCKING: Marking = Marking {
+    from: LOCK_MARK,
+    to: FREE_MARK,
+    already: book::MISSING,
+    barred: book::WITHDRAWN_RECORD,
+    kind: UNLOCKED,
+};
+
+const WITHDRAWING: Marking = Marking {
+    from: FREE_MARK,
+    to: WITHDRAWN_MARK,
+    already: book::ALREADY,
+    barred: book::LOCKED_END,
+    kind: WITHDRAWN,
+};
+
+const REINSTATING: Marking = Marking {
+    from: WITHDRAWN_MARK,
+    to: FREE_MARK,
+    already: book::MISSING,
+    barred: book::MISSING,
+    kind: REINSTATED,
+};
+
+// A record's mark changed: 2, the causes of the change, or 17 for a record to be withdrawn that a link touches, if it cannot be.
+fn remark(
+    counters: Counters,
+    links: &[u32],
+    marks: &mut [u32; book::MAX_RECORDS],
+    ring: &mut [u32; book::MAX_HELD],
+    x: u16,
+    marking: Marking,
+) -> Edited
+    requires { ⌜ Whole counters (now links) (now marks) (now ring) × (marking .kind ≤ 5 * kindUnit) ⌝ }
+    ensures { λ r. ⌜ ((e : Edit) (totals : List ℕ) → Remarks e x marking
+        → Steps (registerOf counters (now (links .entry)) (now (marks .entry)) (now (ring .entry)) totals) (edit e)
+        (outcomeOf r (now (links .entry)) (now (marks .exit)) (now (ring .exit)) totals)) ⌝ }
+{
+    if counters.n <= x {
+        return refused(counters, book::NO_RECORD);
+    }
+    let mark = marks[x as usize];
+    if mark == marking.to {
+        return refused(counters, marking.already);
+    }
+    if mark != marking.from {
+        return refused(counters, marking.barred);
+    }
+    if marking.to == WITHDRAWN_MARK {
+        if touched(links, counters.count, x) {
+            return refused(counters, book::TOUCHED_RECORD);
+        }
+    }
+    let changed = set_mark(counters, marks, x as u32, marking.to);
+    Edited {
+        counters: hold(changed, ring, marking.kind + x as u32),
+        answer: Answer::Done,
+    }
+}
+
+// The latest edit still held taken back; with none held the answer is 8.
+fn undo(
+    counters: Counters,
+    links: &mut [u32; book::MAX_LINKS],
+    marks: &mut [u32; book::MAX_RECORDS],
+    ring: &[u32],
+    totals: &mut [u32; book::LABELS],
+) -> Edited
+    requires { ⌜ Whole counters (now links) (now marks) (now ring) × (length (now totals) ≡ labels) ⌝ }
+    ensures { λ r. ⌜ Steps (registerOf counters (now (links .entry)) (now (marks .entry)) (now (ring .entry)) (now (totals .entry))) undo
+        (outcomeOf r (now (links .exit)) (now (marks .exit)) (now (ring .entry)) (now (totals .exit))) ⌝ }
+{
+    let held = counters.held;
+    if held == 0 {
+        return refused(counters, book::NONE_HELD);
+    }
+    let top = counters.top;
+    let mut at = LAST_HELD;
+    if top != 0 {
+        at = top - 1;
+    }
+    let word = ring[at];
+    let fewer = Counters {
+        n: counters.n,
+        count: counters.count,
+        top: at,
+        held: held - 1,
+    };
+    Edited {
+        counters: taken_back(
+            fewer,
+            links,
+            marks,
+            totals,
+            word / KIND_UNIT,
+            word % KIND_UNIT,
+        ),
+        answer: Answer::Done,
+    }
+}
+
+// Any edit, or an undo, on the arrays of a register. Contents that no call of the engine made, whose counters are out of range, are refused with 16.
+pub fn edit(
+    counters: Counters,
+    links: &mut [u32; book::MAX_LINKS],
+    marks: &mut [u32; book::MAX_RECORDS],
+    ring: &mut [u32; book::MAX_HELD],
+    totals: &mut [u32; book::LABELS],
+    call: Call,
+) -> Edited
+    requires { ⌜ (length (now links) ≡ maxLinks) × (length (now marks) ≡ maxRecords) × (length (now ring) ≡ maxHeld) × (length (now totals) ≡ labels) ⌝ }
+    ensures { λ r. ⌜ Steps (registerOf counters (now (links .entry)) (now (marks .entry)) (now (ring .entry)) (now (totals .entry))) (callOf call)
+        (outcomeOf r (now (links .exit)) (now (marks .exit)) (now (ring .exit)) (now (totals .exit))) ⌝ }
+{
+    if !ranged(counters.n, counters.count, counters.top, counters.held) {
+        return refused(counters, book::NOT_OPEN);
+    }
+    match call {
+        Call::Add(from, label, to) => add(
+            counters,
+            links,
+            marks,
+            ring,
+            totals,
+            LinkParts { from, label, to },
+        ),
+        Call::Remove(from, label, to) => remove(
+            counters,
+            links,
+            marks,
+            ring,
+            totals,
+            LinkParts { from, label, to },
+        ),
+        Call::Lock(record) => remark(counters, links, marks, ring, record, LOCKING),
+        Call::Unlock(record) => remark(counters, links, marks, ring, record, UNLOCKING),
+        Call::Withdraw(record) => remark(counters, links, marks, ring, record, WITHDRAWING),
+        Call::Reinstate(record) => remark(counters, links, marks, ring, record, REINSTATING),
+        Call::Undo => undo(counters, links, marks, ring, totals),
+    }
+}
+
 impl Register {
-    // The edit of a word is held, in the place of the oldest where 256 are.
-    fn hold(mut self, word: u32) -> Register
-        requires { ⌜ (self .top < maxHeld) × (self .held ≤ maxHeld) ⌝ }
-        ensures { λ r. ⌜ Holding self word r ⌝ }
-    {
-        let top = self.top;
-        let mut next = top + 1;
-        if next == book::MAX_HELD {
-            next = 0;
-        }
-        self.ring[top] = word;
-        self.top = next;
-        if self.held < book::MAX_HELD {
-            self.held = self.held + 1;
-        }
-        self
-    }
-
-    // The link of a word put in, and its label's total with it.
-    fn put_in(mut self, x: u32) -> Register
-        requires { ⌜ self .count < maxLinks ⌝ }
-        ensures { λ r. ⌜ Changed self (record { links = insert x (packedOf self .links); marks = self .marks }) r ⌝ }
-    {
-        let count = self.count;
-        let at = place(&self.links, count, x);
-        put(&mut self.links, count, at, x);
-        raise(&mut self.totals, x);
-        self.count = count + 1;
-        self
-    }
-
-    // The link of a word taken out, and of its label's total.
-    fn take_out(mut self, x: u32) -> Register
-        requires { ⌜ self .count ≤ maxLinks ⌝ }
-        ensures { λ r. ⌜ Changed self (record { links = without eqb x (packedOf self .links); marks = self .marks }) r ⌝ }
-    {
-        let count = self.count;
-        let at = place(&self.links, count, x);
-        if !stands(&self.links, count, at, x) {
-            return self;
-        }
-        cut(&mut self.links, count, at);
-        lower(&mut self.totals, x);
-        self.count = count - 1;
-        self
-    }
-
-    // A record's mark.
-    fn set_mark(mut self, x: u32, mark: u32) -> Register
-        requires { ⌜ self .count ≤ maxLinks ⌝ }
-        ensures { λ r. ⌜ Changed self (record { links = packedOf self .links; marks = set (self .marks) x mark }) r ⌝ }
-    {
-        let i = x as usize;
-        if i < book::MAX_RECORDS {
-            self.marks[i] = mark;
-        }
-        self
-    }
-
-    // An edit taken back, by its kind.
-    fn taken_back(self, kind: u32, x: u32) -> Register
-        requires { ⌜ self .count ≤ maxLinks ⌝ }
-        ensures { λ r. ⌜ TakenBack self kind x r ⌝ }
-    {
-        match kind {
-            0 => self.take_out(x),
-            1 => {
-                if book::MAX_LINKS <= self.count {
-                    return self;
-                }
-                self.put_in(x)
-            }
-            2 => self.set_mark(x, FREE_MARK),
-            3 => self.set_mark(x, LOCK_MARK),
-            4 => self.set_mark(x, FREE_MARK), // in use again
-            _ => self.set_mark(x, WITHDRAWN_MARK),
-        }
-    }
-
-    // A link put in: 2, 18, 3, 4, 5 or 7 if it cannot be.
-    pub fn add(self, from: u16, label: u8, to: u16) -> Outcome
-        ensures { λ r. ⌜ Steps self (edit (add (record { from = from; label = label; to = to }))) r ⌝ }
-    {
-        let count = self.count;
-        let link = LinkParts { from, label, to };
-        let check = check_link(self.n, count, self.top, self.held, &self.marks, link);
-        // the causes of the ends, a lock among them, were looked for before anything is written or held
-        match check {
-            LinkCheck::Fault(number) => Outcome {
-                register: self,
-                answer: Answer::Refused(number),
-            },
-            LinkCheck::Word(x) => {
-                if holds(&self.links, count, x) {
-                    return Outcome {
-                        register: self,
-                        answer: Answer::Refused(book::ALREADY),
-                    };
-                }
-                if book::MAX_LINKS <= count {
-                    return Outcome {
-                        register: self,
-                        answer: Answer::Refused(book::FULL),
-                    };
-                }
-                let changed = self.put_in(x);
-                Outcome {
-                    register: changed.hold(x),
-                    answer: Answer::Done, // the link is in
-                }
-            }
-        }
-    }
-
-    // A link taken out: 2, 18, 3, 4 or 6 if it cannot be.
-    pub fn remove(self, from: u16, label: u8, to: u16) -> Outcome
-        ensures { λ r. ⌜ Steps self (edit (remove (record { from = from; label = label; to = to }))) r ⌝ }
-    {
-        let count = self.count;
-        let link = LinkParts { from, label, to };
-        let check = check_link(self.n, count, self.top, self.held, &self.marks, link);
-        match check {
-            LinkCheck::Fault(number) => Outcome {
-                register: self,
-                answer: Answer::Refused(number),
-            },
-            LinkCheck::Word(x) => {
-                if !holds(&self.links, count, x) {
-                    return Outcome {
-                        register: self,
-                        answer: Answer::Refused(book::MISSING),
-                    };
-                }
-                let changed = self.take_out(x);
-                Outcome {
-                    register: changed.hold(REMOVED + x),
-                    answer: Answer::Done,
-                }
-            }
-        }
-    }
-
-    // A record locked: 2, 18 or 5 if it cannot be.
-    pub fn lock(self, record: u16) -> Outcome
-        ensures { λ r. ⌜ Steps self (edit (lock «record»)) r ⌝ }
-    {
-        if !ranged(self.n, self.count, self.top, self.held) {
-            return Outcome {
-                register: self,
-                answer: Answer::Refused(book::NOT_OPEN),
-            };
-        }
-        if self.n <= record {
-            return Outcome {
-                register: self,
-                answer: Answer::Refused(book::NO_RECORD),
-            };
-        }
-        let mark = self.marks[record as usize];
-        if mark == WITHDRAWN_MARK {
-            return Outcome {
-                register: self,
-                answer: Answer::Refused(book::WITHDRAWN_RECORD),
-            };
-        }
-        if mark == LOCK_MARK {
-            return Outcome {
-                register: self,
-                answer: Answer::Refused(book::ALREADY),
-            };
-        }
-        let changed = self.set_mark(record as u32, LOCK_MARK);
-        Outcome {
-            register: changed.hold(LOCKED + record as u32),
-            answer: Answer::Done,
-        }
-    }
-
-    // A record unlocked: 2, 18 or 6 if it cannot be.
-    pub fn unlock(self, record: u16) -> Outcome
-        ensures { λ r. ⌜ Steps self (edit (unlock «record»)) r ⌝ }
-    {
-        if !ranged(self.n, self.count, self.top, self.held) {
-            return Outcome {
-                register: self,
-                answer: Answer::Refused(book::NOT_OPEN),
-            };
-        }
-        if self.n <= record {
-            return Outcome {
-                register: self,
-                answer: Answer::Refused(book::NO_RECORD),
-            };
-        }
-        let mark = self.marks[record as usize];
-        if mark == WITHDRAWN_MARK {
-            return Outcome {
-                register: self,
-                answer: Answer::Refused(book::WITHDRAWN_RECORD),
-            };
-        }
-        if mark != LOCK_MARK {
-            return Outcome {
-                register: self,
-                answer: Answer::Refused(book::MISSING),
-            };
-        }
-        let changed = self.set_mark(record as u32, FREE_MARK);
-        Outcome {
-            register: changed.hold(UNLOCKED + record as u32),
-            answer: Answer::Done,
-        }
-    }
-
-    // A record withdrawn: 2, 4, 5 or 17 if it cannot be.
-    pub fn withdraw(self, record: u16) -> Outcome
-        ensures { λ r. ⌜ Steps self (edit (withdraw «record»)) r ⌝ }
-    {
-        if !ranged(self.n, self.count, self.top, self.held) {
-            return Outcome {
-                register: self,
-                answer: Answer::Refused(book::NOT_OPEN),
-            };
-        }
-        if self.n <= record {
-            return Outcome {
-                register: self,
-                answer: Answer::Refused(book::NO_RECORD),
-            };
-        }
-        let mark = self.marks[record as usize];
-        if mark == LOCK_MARK {
-            return Outcome {
-                register: self,
-                answer: Answer::Refused(book::LOCKED_END),
-            };
-        }
-        if mark == WITHDRAWN_MARK {
-            return Outcome {
-                register: self,
-                answer: Answer::Refused(book::ALREADY),
-            };
-        }
-        if touched(&self.links, self.count, record) {
-            return Outcome {
-                register: self,
-                answer: Answer::Refused(book::TOUCHED_RECORD),
-            };
-        }
-        let changed = self.set_mark(record as u32, WITHDRAWN_MARK);
-        Outcome {
-            register: changed.hold(WITHDRAWN + record as u32),
-            answer: Answer::Done,
-        }
-    }
-
-    // A record reinstated: 2 or 6 if it cannot be.
-    pub fn reinstate(self, record: u16) -> Outcome
-        ensures { λ r. ⌜ Steps self (edit (reinstate «record»)) r ⌝ }
-    {
-        if !ranged(self.n, self.count, self.top, self.held) {
-            return Outcome {
-                register: self,
-                answer: Answer::Refused(book::NOT_OPEN),
-            };
-        }
-        if self.n <= record {
-            return Outcome {
-                register: self,
-                answer: Answer::Refused(book::NO_RECORD),
-            };
-        }
-        if self.marks[record as usize] != WITHDRAWN_MARK {
-            return Outcome {
-                register: self,
-                answer: Answer::Refused(book::MISSING),
-            };
-        }
-        let changed = self.set_mark(record as u32, FREE_MARK);
-        Outcome {
-            register: changed.hold(REINSTATED + record as u32),
-            answer: Answer::Done,
-        }
-    }
-
-    // The latest edit still held taken back; with none held the answer is 8.
-    pub fn undo(mut self) -> Outcome
-        ensures { λ r. ⌜ Steps self undo r ⌝ }
-    {
-        if !ranged(self.n, self.count, self.top, self.held) {
-            return Outcome {
-                register: self,
-                answer: Answer::Refused(book::NOT_OPEN),
-            };
-        }
-        let held = self.held;
-        if held == 0 {
-            return Outcome {
-                register: self,
-                answer: Answer::Refused(book::NONE_HELD),
-            };
-        }
-        let top = self.top;
-        let mut at = LAST_HELD;
-        if top != 0 {
-            at = top - 1;
-        }
-        let word = self.ring[at];
-        self.top = at;
-        self.held = held - 1;
-        let restored = self.taken_back(word / KIND_UNIT, word % KIND_UNIT);
-        Outcome {
-            register: restored,
-            answer: Answer::Done,
-        }
-    }
-
-    // Any edit, or an undo.
+    // Any edit, or an undo: the arrays are taken out, edited and put back.
     pub fn apply(self, call: Call) -> Outcome
         ensures { λ r. ⌜ Steps self (callOf call) r ⌝ }
     {
-        match call {
-            Call::Add(from, label, to) => self.add(from, label, to),
-            Call::Remove(from, label, to) => self.remove(from, label, to),
-            Call::Lock(record) => self.lock(record),
-            Call::Unlock(record) => self.unlock(record),
-            Call::Withdraw(record) => self.withdraw(record),
-            Call::Reinstate(record) => self.reinstate(record),
-            Call::Undo => self.undo(),
+        let counters = Counters {
+            n: self.n,
+            count: self.count,
+            top: self.top,
+            held: self.held,
+        };
+        let mut links = self.links;
+        let mut marks = self.marks;
+        let mut ring = self.ring;
+        let mut totals = self.totals;
+        let edited = edit(
+            counters,
+            &mut links,
+            &mut marks,
+            &mut ring,
+            &mut totals,
+            call,
+        );
+        let after = edited.counters;
+        let answer = edited.answer;
+        Outcome {
+            register: Register {
+                n: after.n,
+                count: after.count,
+                links,
+                marks,
+                ring,
+                top: after.top,
+                held: after.held,
+                totals,
+            },
+            answer,
         }
+    }
+
+    pub fn add(self, from: u16, label: u8, to: u16) -> Outcome
+        ensures { λ r. ⌜ Steps self (edit (add (record { from = from; label = label; to = to }))) r ⌝ }
+    {
+        self.apply(Call::Add(from, label, to))
+    }
+
+    pub fn remove(self, from: u16, label: u8, to: u16) -> Outcome
+        ensures { λ r. ⌜ Steps self (edit (remove (record { from = from; label = label; to = to }))) r ⌝ }
+    {
+        self.apply(Call::Remove(from, label, to))
+    }
+
+    pub fn lock(self, record: u16) -> Outcome
+        ensures { λ r. ⌜ Steps self (edit (lock «record»)) r ⌝ }
+    {
+        self.apply(Call::Lock(record))
+    }
+
+    pub fn unlock(self, record: u16) -> Outcome
+        ensures { λ r. ⌜ Steps self (edit (unlock «record»)) r ⌝ }
+    {
+        self.apply(Call::Unlock(record))
+    }
+
+    pub fn withdraw(self, record: u16) -> Outcome
+        ensures { λ r. ⌜ Steps self (edit (withdraw «record»)) r ⌝ }
+    {
+        self.apply(Call::Withdraw(record))
+    }
+
+    pub fn reinstate(self, record: u16) -> Outcome
+        ensures { λ r. ⌜ Steps self (edit (reinstate «record»)) r ⌝ }
+    {
+        self.apply(Call::Reinstate(record))
+    }
+
+    pub fn undo(self) -> Outcome
+        ensures { λ r. ⌜ Steps self undo r ⌝ }
+    {
+        self.apply(Call::Undo)
     }
 }

@@ -11,6 +11,7 @@ ghost use lib.Dec.{leb};
 ghost use Rattle.book.specs.Causes.{maxRecords};
 ghost use Rattle.register.specs.History.{kindCall, wordCall, EntrySteps, entryCalls, callsOf, closings, Replays};
 ghost use Rattle.register.specs.Entries.{entryOf};
+ghost use Rattle.register.specs.Drafts.{unclosed};
 ghost use Rattle.register.specs.Closing.{Roomed};
 
 // The kinds of calls, numbered as the program's frames are; closing up has no frame.
@@ -63,6 +64,16 @@ pub fn entry_of(kind: u64, from: u16, label: u8, to: u16) -> Entry
     }
 }
 
+// The edit or undo of a word; a closing up is none.
+pub fn entry_at(word: u64) -> Entry
+    ensures { λ r. ⌜ entryOf r ≡ unclosed (wordCall «word») ⌝ }
+{
+    let from = (word / WORD_FROM % WORD_RECORDS) as u16;
+    let label = (word / WORD_LABEL % WORD_LABELS) as u8;
+    let to = (word % WORD_RECORDS) as u16;
+    entry_of(word / WORD_KIND, from, label, to)
+}
+
 // How many of the words of a list a closing up uses that is lent so many: no more than a register has records, and no more than there are.
 fn room_for(room: u64, length: usize) -> usize
     ensures { λ r. ⌜ Roomed room length r ⌝ }
@@ -111,15 +122,11 @@ impl Register {
     pub fn step(self, word: u64, numbers: &mut [u16]) -> Outcome
         ensures { λ r. ⌜ EntrySteps self (wordCall «word») (record { before = now (numbers .entry); after = now (numbers .exit) }) r ⌝ }
     {
-        let kind = word / WORD_KIND;
-        if kind == CLOSE_KIND {
+        if word / WORD_KIND == CLOSE_KIND {
             let room = room_for(word % WORD_KIND, numbers.len());
             return self.close_up(&mut numbers[..room]);
         }
-        let from = (word / WORD_FROM % WORD_RECORDS) as u16;
-        let label = (word / WORD_LABEL % WORD_LABELS) as u8;
-        let to = (word % WORD_RECORDS) as u16;
-        let entry = entry_of(kind, from, label, to);
+        let entry = entry_at(word);
         match entry {
             Entry::Call(call) => self.apply(call),
             Entry::NoCall => Outcome {

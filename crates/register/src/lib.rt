@@ -1,20 +1,16 @@
-// The register: links, marks and held edits by value. This file has its types and its numbers, and passes the rest on: sorted.rt ascending words, fields.rt
-// the parts of a link's word, state.rt a fresh register, totals.rt the totals, edits.rt the calls that edit it, closing.rt closing up its numbers,
-// parting.rt the register without a record's links, history.rt a history as words, questions.rt what questions read, words.rt its words.
+// The register: links, marks and held edits by value. This file has its types and its numbers, and passes the rest on: state.rt a fresh register, edits.rt the
+// calls that edit it, drafts.rt a list of them made all or none, closing.rt closing up its numbers, parting.rt the register without a record's links,
+// history.rt a history as words, questions.rt what questions read, words.rt its words.
 // What the calls promise is stated in specs/Calls.antt, specs/History.antt and specs/Questions.antt, about the plain book of the crate book.
 mod closing;
+mod drafts;
 mod edits;
-mod fields;
 mod history;
 mod parting;
 mod questions;
-mod sorted;
 mod state;
-mod totals;
 mod words;
 
-pub use fields::from_of;
-pub use fields::to_of;
 pub use history::ADD_KIND;
 pub use history::Entry;
 pub use history::LOCK_KIND;
@@ -25,7 +21,7 @@ pub use history::UNLOCK_KIND;
 pub use history::WITHDRAW_KIND;
 pub use history::entry_of;
 pub use history::replay;
-pub use questions::label_part;
+pub use links::label_part;
 pub use state::number_of;
 pub use words::STATE_WORDS;
 pub use words::copy;
@@ -43,13 +39,6 @@ pub use words::totals_in;
 const MAX_RECORDS: u16 = book::MAX_RECORDS as u16;
 
 const LABELS: u8 = book::LABELS as u8;
-
-// A link's word is its label, from and to, each times its unit.
-const TO_UNIT: u32 = 1;
-
-const FROM_UNIT: u32 = book::MAX_RECORDS as u32;
-
-const LABEL_UNIT: u32 = FROM_UNIT * FROM_UNIT;
 
 // A held word is the word of a link or a record, and one of these for its kind; an add has none.
 const KIND_UNIT: u32 = 33554432;
@@ -110,14 +99,43 @@ pub struct Outcome {
     pub answer: Answer,
 }
 
+// The answer to a draft: every call made, or none, with the place of the first that is refused and its number.
+pub enum DraftAnswer {
+    Made,
+    Refused(usize, u32),
+}
+
+// What a draft hands back.
+pub struct Applied {
+    pub register: Register,
+    pub answer: DraftAnswer,
+}
+
 // The links of a register, as the first count of words.
 pub struct Links {
     pub words: [u32; book::MAX_LINKS],
     pub count: usize,
 }
 
-// What is found of a link before its presence is: its word, or the number of a refusal.
-enum LinkCheck {
-    Word(u32),
-    Fault(u32),
+// The counters of a register.
+struct Counters {
+    n: u16,
+    count: usize,
+    top: usize,
+    held: usize,
+}
+
+// What an edit of a register's arrays hands back beside them.
+struct Edited {
+    counters: Counters,
+    answer: Answer,
+}
+
+// A change of a record's mark: from which to which; the causes if the record has the second already, and if it has another; and what is held for it.
+struct Marking {
+    from: u32,
+    to: u32,
+    already: u32,
+    barred: u32,
+    kind: u32,
 }

@@ -1,14 +1,14 @@
 // The register without the links that touch a record. What it promises is stated in specs/Parting.antt.
 use crate::Register;
-use crate::fields::from_of;
-use crate::fields::to_of;
 use crate::state::ranged;
-use crate::totals::lower;
+use links::from_of;
+use links::lower_total;
+use links::to_of;
 ghost use mathlib.Core.Path.{_≡_};
 ghost use Prim.Native.Nat.{_/_, _≤_};
 ghost use lib.ListN.{length, take};
-ghost use Rattle.register.specs.Links.{labelUnit};
-ghost use Rattle.register.specs.Inner.{Lowered};
+ghost use Rattle.links.specs.Links.{labelUnit};
+ghost use Rattle.links.specs.Totals.{Lowered};
 ghost use Rattle.register.specs.Parting.{Without};
 ghost use Rattle.register.specs.Apart.{apartWord, Kept};
 
@@ -27,7 +27,7 @@ fn lowered(totals: [u32; book::LABELS], word: u32) -> [u32; book::LABELS]
     ensures { λ r. ⌜ Lowered («word» / labelUnit) totals r ⌝ }
 {
     let mut less = totals;
-    lower(&mut less, word);
+    lower_total(&mut less, word);
     less
 }
 

@@ -1,25 +1,13 @@
-// What questions read of a register: its size, links, marks and totals, the part of one label, the links of a record. See specs/Questions.antt.
+// What questions read of a register: its size, links, marks and totals. See specs/Questions.antt.
 use crate::FREE_MARK;
-use crate::FROM_UNIT;
-use crate::LABEL_UNIT;
 use crate::LABELS;
 use crate::LOCK_MARK;
 use crate::Links;
 use crate::MAX_RECORDS;
 use crate::Register;
-use crate::TO_UNIT;
 use crate::WITHDRAWN_MARK;
-use crate::sorted::place;
 use crate::state::ranged;
 use answers::Counted;
-ghost use mathlib.Core.Path.{_≡_};
-ghost use mathlib.Core.List.{map};
-ghost use Prim.Native.Nat.{_≤_, _<_};
-ghost use lib.ListN.{length, take};
-ghost use Rattle.book.specs.Book.{touched as Book·touched};
-ghost use Rattle.register.specs.Links.{linkOf};
-ghost use Rattle.register.specs.Inner.{hasAt};
-ghost use Rattle.register.specs.Lookups.{LabelPart, nextPlace};
 ghost use Rattle.register.specs.Questions.{Sized, Listing, MarkList, Locking, Withdrawal, TotalList, Totals};
 
 impl Register {
@@ -106,42 +94,4 @@ impl Register {
         let kept = self.totals[label as usize];
         Counted::Count(kept as usize)
     }
-}
-
-// The part of the words of links that have one label: of ascending words exactly those, in order; of others some part of them.
-pub fn label_part<'a>(words: &'a [u32], label: u8) -> &'a [u32]
-    ensures { λ r. ⌜ LabelPart (now (words .entry)) label (now r) ⌝ }
-{
-    let first = label as u32 * LABEL_UNIT;
-    let from = place(words, words.len(), first);
-    let rest = &words[from..];
-    let count = place(rest, rest.len(), first + LABEL_UNIT);
-    &rest[..count]
-}
-
-// The first place from at on whose word has the record at one side: to in its last ten bits, unit 1, or from in the ten before them, unit 1,024.
-fn next_side(words: &[u32], unit: u32, record: u16, at: usize) -> usize
-    requires { ⌜ 0 < unit ⌝ }
-    ensures { λ r. ⌜ r ≡ nextPlace (hasAt unit «record») (now (words .entry)) at ⌝ }
-{
-    let mut i = at;
-    while i < words.len() {
-        if words[i] / unit % FROM_UNIT == record as u32 {
-            return i;
-        }
-        i += 1;
-    }
-    words.len()
-}
-
-// Whether a link of the first count words has the record at either side.
-pub fn touched(words: &[u32], count: usize, record: u16) -> bool
-    requires { ⌜ count ≤ length (now words) ⌝ }
-    ensures { λ r. ⌜ r ≡ Book·touched «record» (map linkOf (take count (now (words .entry)))) ⌝ }
-{
-    let part = &words[..count];
-    if next_side(part, FROM_UNIT, record, 0) < part.len() {
-        return true;
-    }
-    next_side(part, TO_UNIT, record, 0) < part.len()
 }

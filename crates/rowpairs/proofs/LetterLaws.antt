@@ -29,10 +29,11 @@ use Rattle.k2.specs.PairSetLaws.{set-in, in-set, set-past}
 use Rattle.paths.specs.Expressions.{Letter}
 use Rattle.paths.specs.Chains.{Graph, asked}
 use Rattle.paths.specs.Relations.{crossedBy}
-use Rattle.rows.specs.Rows.{noPairs, linkPair, labelled, crossedWords}
+use Rattle.rows.specs.Rows.{noPairs, labelled, crossedWords}
+use Rattle.links.specs.Links.{linkPair}
 use Rattle.rows.specs.RowLaws.{crossed-set, labelled-none, set-none, union-right, union-join}
 use Rattle.reader.specs.Letters.{lettersIn}
-use Rattle.register.specs.Lookups.{PairsOf, LabelPart}
+use Rattle.links.specs.Lookups.{PairsOf, LabelPart}
 use Rattle.grid.specs.Grid.{within, first}
 use Rattle.grid.specs.GridLaws.{within-set}
 use Rattle.query.specs.Evaluation.{Lettered}

@@ -22,8 +22,8 @@ use Rattle.book.specs.ListLaws.{rises-same}
 use Rattle.book.specs.Book.{Book, present}
 use Rattle.k2.specs.Bits.{digit}
 use Rattle.k2.specs.DigitLaws.{digit-pow, digit-none}
-use Rattle.k2.specs.PairSets.{Cells, pairWord, listed, setOf, PairsBelow}
-use Rattle.k2.specs.PairSetLaws.{set-in, in-set, in-listed, listed-in, listed-rises}
+use Rattle.k2.specs.PairSets.{pairWord, listed, setOf, PairsBelow}
+use Rattle.k2.specs.PairSetLaws.{set-in, in-set, in-listed, listed-in, listed-rises, head-same}
 use Rattle.paths.specs.Expressions.{Letter, Expr}
 use Rattle.paths.specs.Chains.{Graph, asked}
 use Rattle.paths.specs.Relations.{crossedBy, cells, pairs}
@@ -32,17 +32,14 @@ use Rattle.paths.specs.PairLaws.{fit-inside}
 use Rattle.reader.specs.declared.items.Item.{Item}
 use Rattle.reader.specs.Letters.{lettersIn}
 use Rattle.reader.specs.Code.{does, run}
-use Rattle.rows.specs.Rows.{linkPair}
-use Rattle.register.specs.Lookups.{LabelPart}
+use Rattle.links.specs.Links.{linkPair}
+use Rattle.links.specs.Lookups.{LabelPart}
 use Rattle.query.specs.Evaluation.{relations, Coded, Lettered}
 use Rattle.query.specs.EvaluationLaws.{coded-value}
 use Rattle.rowpairs.specs.Labels.{Alone}
 use Rattle.rowpairs.proofs.LetterLaws.{below, part-pairs, part-set}
 
 -- ---- its value
-head-same : {x y : Cells} {xs ys : List Cells} → x ∷ xs ≡ y ∷ ys → x ≡ y
-head-same e = cc
-
 alone-cells : (g : Graph) (l : ℕ) (s : List ℕ) (e : Expr) (c : List ℕ) → Coded s e c → Alone l c → cells g e ≡ crossedBy g (lettersIn (2 ^ l) 0)
 unfolding run does relations
 alone-cells g l s e c C A =

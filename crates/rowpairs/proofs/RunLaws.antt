@@ -15,6 +15,7 @@ use lib.ListN.{length, drop, getD, drop-of-length-le}
 use lib.Seq.{drop-cons}
 use Rattle.book.specs.Causes.{labels}
 use Rattle.k2.specs.PairSets.{Cells, transpose, most}
+use Rattle.k2.specs.PairSetLaws.{head-same}
 use Rattle.paths.specs.Expressions.{Expr}
 use Rattle.paths.specs.Chains.{Graph, asked}
 use Rattle.paths.specs.Relations.{crossedBy}
@@ -121,9 +122,6 @@ module _ (n : ℕ) (links marks c : List ℕ) where
             λ b L s e q. alone k (ap (λ (x : List ℕ). run (relations (asked b)) x (lying n ws ms k)) (sym (drop-of-length-le c {i = i} h)) ∙ G .rest b L s e q);
       }
     where
-      head-same : {x y : Cells} {xs ys : List Cells} → x ∷ xs ≡ y ∷ ys → x ≡ y
-      head-same e = cc
-
       tail-same : {x y : Cells} {xs ys : List Cells} → x ∷ xs ≡ y ∷ ys → xs ≡ ys
       tail-same e = cc
 

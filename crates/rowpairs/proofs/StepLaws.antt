@@ -1,7 +1,7 @@
 -- One number of the code, in plain variables: where relations lie in the work, and what an item does to those that wait.
 --   start-le, mark-le, space, list-space
 --                      what an item and the list are lent: at most 18 relations stand before, and there is room
---   rest, part-length  the part that is lent is the rest, and its length
+--   first-kept         the first relation is as it was if its words and masks are
 --   goes-step          what the operation left at the front of the parts is the relation at the place of its first operand, and those below stay as they were
 --   lent-space, goes-part
 --                      the same with the words of a row as a number, and the parts as they are lent
@@ -11,10 +11,11 @@ use mathlib.Core.List.{List, _∷_, _++_, append-nil}
 use Prim.Native.Nat.{ℕ, zero, suc, _+_, _-_, _*_, _/_, _%_, _<_, _≤_, min}
 use native.Mathlib.Nat.{mul-le-mul-right, suc-mul}
 use native.Mathlib.Omega.{arith}
-use lib.ListN.{length, take, drop, getD, length-drop}
-use lib.Seq.{drop-at, drop-drop, length-take-le, drop-length, take-all, getD-take, getD-drop}
-use borrow.Rule.Slice.PartMut.{putMid, take-put, mid-len}
+use lib.ListN.{length, take, drop, getD}
+use lib.Seq.{drop-at, drop-drop, length-take-le, drop-length, getD-take, getD-drop}
+use borrow.Rule.Slice.PartMut.{putMid, take-put}
 use Rattle.book.specs.Book.{Book}
+use Rattle.book.specs.ListLaws.{rest-whole, rest-length}
 use Rattle.k2.specs.Bits.{digit}
 use Rattle.k2.specs.PairSets.{Cells}
 use Rattle.paths.specs.Chains.{Graph, asked}
@@ -23,11 +24,11 @@ use Rattle.reader.specs.declared.items.Item.{Item}
 use Rattle.reader.specs.declared.items.Item.the-variants.{Letters, Inverse, Star, Plus, Optional, Alternative, Sequence}
 use Rattle.reader.specs.Code.{does}
 use Rattle.reader.specs.Running.{operands}
-use Rattle.grid.specs.Grid.{rowOf, firstRows, first, second}
+use Rattle.grid.specs.Grid.{Space, rowOf, firstRows, first, second}
 use Rattle.grid.specs.GridLaws.{within-same, second-part}
 use Rattle.query.specs.Evaluation.{relations}
 use Rattle.query.specs.WorkLaws.{width-le, width-wide}
-use Rattle.rowpairs.specs.Evaluation.{Space, Lent, Known, outcomeOf, Operates, relationAt, lying, Goes}
+use Rattle.rowpairs.specs.Evaluation.{Lent, Known, outcomeOf, Operates, relationAt, lying, Goes, Held, relationIn}
 
 -- ---- sizes
 product-le : (k m d : ℕ) → k ≤ m → k * d ≤ m * d
@@ -49,7 +50,7 @@ module _ (n k cells masks : ℕ) (L : Lent n (suc k) cells masks) (early : k ≤
   pub mark-le : k * n ≤ 18 * n
   mark-le = product-le k 18 n early
 
-  pub space : Space n (rowWidth n) (cells - k * (n * rowWidth n)) (masks - k * n)
+  pub space : Space n (rowWidth n) (n + n + 1) (cells - k * (n * rowWidth n)) (masks - k * n)
   space = record {
     small = L .small;
     narrow = width-le n (L .small);
@@ -59,10 +60,14 @@ module _ (n k cells masks : ℕ) (L : Lent n (suc k) cells masks) (early : k ≤
   }
 
 -- what the list is lent
-pub list-space : (n w k cells masks : ℕ) → w ≡ rowWidth n → Lent n k cells masks
-    → (n ≤ 1024) × (w ≤ 16) × (n ≤ w * 64) × (n * w ≤ cells) × (n ≤ masks)
-list-space n w k cells masks e L =
-    (L .small, rw e (width-le n (L .small)), rw e (width-wide n), rw e (omega (arith, L .words)), omega (arith, L .marks))
+pub list-space : (n w cells masks : ℕ) → w ≡ rowWidth n → Held n cells → n ≤ masks → Space n w n cells masks
+list-space n w cells masks e H m = record {
+  small = H .small;
+  narrow = rw e (width-le n (H .small));
+  wide = rw e (width-wide n);
+  words = rw e (H .front);
+  marks = m;
+}
 
 -- ---- a slice with a part of it, from a place on, changed
 module _ (xs part : List ℕ) (start : ℕ) (h : start ≤ length xs) where
@@ -79,33 +84,26 @@ module _ (xs part : List ℕ) (start : ℕ) (h : start ≤ length xs) where
       omega arith in e) ∙ drop-length xs)
       ∙ append-nil part
 
--- the part that is lent is the rest
-pub rest : (xs : List ℕ) (start : ℕ) → take (length xs - start) (drop start xs) ≡ drop start xs
-rest xs start = take-all (length xs - start) (drop start xs) (rw (length-drop start xs) (omega arith))
-
--- its length
-pub part-length : (xs : List ℕ) (start : ℕ) → length (take (length xs - start) (drop start xs)) ≡ length xs - start
-part-length xs start = mid-len start (length xs) xs (omega arith)
-
 -- ---- relations that lie below what has changed are as they were
+pub first-kept : (n : ℕ) (ws ws′ ms ms′ : List ℕ) → ((i : ℕ) → i < n * rowWidth n → getD ws′ i 0 ≡ getD ws i 0)
+    → ((i : ℕ) → i < n → getD ms′ i 0 ≡ getD ms i 0) → relationIn ws′ ms′ n ≡ relationIn ws ms n
+unfolding firstRows rowOf
+first-kept n ws ws′ ms ms′ same marks =
+    within-same n (firstRows (rowWidth n) ws′ ms′) (firstRows (rowWidth n) ws ms)
+    (λ x y a b.
+    let c : y / 64 < rowWidth n = omega (arith, width-wide n) in
+    let p : x * rowWidth n + y / 64 < n * rowWidth n = omega (arith, next-le x n (rowWidth n) a) in
+    ap₂ (λ (d v : ℕ). min (digit d (y / 64)) (digit v (y % 64))) (marks x a) (same _ p))
+
 module _ (n : ℕ) (ws ws′ ms ms′ : List ℕ) (k : ℕ) (same : (i : ℕ) → i < k * (n * rowWidth n) → getD ws′ i 0 ≡ getD ws i 0)
     (marks : (i : ℕ) → i < k * n → getD ms′ i 0 ≡ getD ms i 0) where
   relation-kept : (j : ℕ) → j < k → relationAt n ws′ ms′ j ≡ relationAt n ws ms j
-  unfolding relationAt firstRows rowOf
-  relation-kept j h = within-same n (rows ws′ ms′) (rows ws ms) cell
-    where
-      rows : List ℕ → List ℕ → Cells
-      rows l m = firstRows (rowWidth n) (drop (j * (n * rowWidth n)) l) (drop (j * n) m)
-
-      cell : (x y : ℕ) → x < n → y < n → rows ws′ ms′ x y ≡ rows ws ms x y
-      cell x y a b =
-          let c : y / 64 < rowWidth n = omega (arith, width-wide n) in
-          let p : j * (n * rowWidth n) + (x * rowWidth n + y / 64) < k * (n * rowWidth n) =
-          omega (arith, next-le x n (rowWidth n) a, next-le j k (n * rowWidth n) h) in
-          let q : j * n + x < k * n = omega (arith, next-le j k n h) in
-          ap₂ (λ (d v : ℕ). min (digit d (y / 64)) (digit v (y % 64)))
-          (getD-drop (j * n) ms′ x 0 ∙ marks (j * n + x) q ∙ sym (getD-drop (j * n) ms x 0))
-          (getD-drop (j * (n * rowWidth n)) ws′ (x * rowWidth n + y / 64) 0 ∙ same _ p ∙ sym (getD-drop (j * (n * rowWidth n)) ws (x * rowWidth n + y / 64) 0))
+  unfolding relationAt
+  relation-kept j h =
+      let at : ℕ = j * (n * rowWidth n) in
+      first-kept n (drop at ws) (drop at ws′) (drop (j * n) ms) (drop (j * n) ms′)
+      (λ i a. getD-drop at ws′ i 0 ∙ same (at + i) (omega (arith, next-le j k (n * rowWidth n) h)) ∙ sym (getD-drop at ws i 0))
+      (λ i a. getD-drop (j * n) ms′ i 0 ∙ marks (j * n + i) (omega (arith, next-le j k n h)) ∙ sym (getD-drop (j * n) ms i 0))
 
   lying-kept : (j : ℕ) → j ≤ k → lying n ws′ ms′ j ≡ lying n ws ms j
   unfolding lying
@@ -168,11 +166,13 @@ module _ (n : ℕ) (links held : List ℕ) (y : Item) (ws part ms marks : List �
 
 -- ---- the same with the words of a row as a number, and the parts as they are lent
 pub lent-space : (n k w : ℕ) (ws ms : List ℕ) → w ≡ rowWidth n → Lent n (suc k) (length ws) (length ms) → k ≤ 18
-    → Space n w (length (take (length ws - k * (n * w)) (drop (k * (n * w)) ws))) (length (take (length ms - k * n) (drop (k * n) ms)))
+    → Space n w (n + n + 1) (length (take (length ws - k * (n * w)) (drop (k * (n * w)) ws))) (length (take (length ms - k * n) (drop (k * n) ms)))
 lent-space n k w ws ms e L h =
-    subst (λ (v : ℕ). Space n v (length (take (length ws - k * (n * v)) (drop (k * (n * v)) ws))) (length (take (length ms - k * n) (drop (k * n) ms)))) (sym e)
-    (subst (λ (i : ℕ). Space n (rowWidth n) i (length (take (length ms - k * n) (drop (k * n) ms)))) (sym (part-length ws (k * (n * rowWidth n))))
-    (subst (λ (i : ℕ). Space n (rowWidth n) (length ws - k * (n * rowWidth n)) i) (sym (part-length ms (k * n))) (space n k (length ws) (length ms) L h)))
+    subst (λ (v : ℕ). Space n v (n + n + 1) (length (take (length ws - k * (n * v)) (drop (k * (n * v)) ws)))
+    (length (take (length ms - k * n) (drop (k * n) ms)))) (sym e)
+    (subst (λ (i : ℕ). Space n (rowWidth n) (n + n + 1) i (length (take (length ms - k * n) (drop (k * n) ms)))) (sym (rest-length ws (k * (n * rowWidth n))))
+    (subst (λ (i : ℕ). Space n (rowWidth n) (n + n + 1) (length ws - k * (n * rowWidth n)) i)
+    (sym (rest-length ms (k * n))) (space n k (length ws) (length ms) L h)))
 
 pub goes-part : (n : ℕ) (links held : List ℕ) (y : Item) (ws part ms marks : List ℕ) (m k w : ℕ)
     → w ≡ rowWidth n → m ≡ k + operands y → Lent n (suc k) (length ws) (length ms) → k ≤ 18
@@ -190,6 +190,6 @@ goes-part n links held y ws part ms marks m k w e is L h made =
     whole o =
         goes-step n links held y ws part ms marks m k is
         (omega (arith, start-le n k (length ws) (length ms) L h, L .words)) (omega (arith, L .marks, suc-mul k n))
-        (subst (λ (l : List ℕ). Operates n (rowWidth n) links held y (drop (k * (n * rowWidth n)) ws) part l marks) (rest ms (k * n))
+        (subst (λ (l : List ℕ). Operates n (rowWidth n) links held y (drop (k * (n * rowWidth n)) ws) part l marks) (rest-whole ms (k * n))
         (subst (λ (l : List ℕ). Operates n (rowWidth n) links held y l part (take (length ms - k * n) (drop (k * n) ms)) marks)
-        (rest ws (k * (n * rowWidth n))) o))
+        (rest-whole ws (k * (n * rowWidth n))) o))

@@ -1,6 +1,4 @@
 -- How a pair question is evaluated by rows: the relations still waiting, which lie one after another at the front of the lent work, and so do their masks.
---   Space n w cells masks
---                         what an operation on relations of n rows of w words is lent: so many words and masks, enough for two relations and a row
 --   Lent n k cells masks  what k relations of n records and the work on them are lent: 32 relations' words, and the masks of k and one more
 --   LentFor n c cells masks
 --                         what the code c is lent: so much for as many relations as wait at once, which are no more than 19, and no more than it has numbers
@@ -24,9 +22,19 @@
 --                         are those of the value of the code c; over any contents there are no more of them than there are of records
 --   ValueInRows n links marks c rows t
 --                         the same of rows of 1,024 bits
+--   Runnable n marks c    the code c is an expression's, and there is a mark of each of n records
+--   Enough n work         so much work is enough for the value of a code: for the relations of more than 32 records, and for one relation of any
+--   KnownOf r n links marks
+--                         what was read of the register r: for every book that it represents, its links and marks
+--   relationIn ws ms n    the relation of n records at the front of the words ws, with the masks ms
+--   Column f y n r        r is the first place below n, from y on, at which f is 1; n if there is none
+--   Held n words          so many words hold a relation of n records, and there may be so many records
+--   Relating r v work ws q
+--                         the relation of a text of the verdict v, asked of the register r with so many words of work, left at the front of the words ws
 -- Assumes nothing: these are definitions.
 use mathlib.Core.Path.{_≡_}
 use mathlib.Core.List.{List, [], _∷_, _++_}
+use Rattle.answers.specs.declared.Counted.the-variants.{Count}
 use Prim.Native.Nat.{ℕ, zero, suc, _+_, _-_, _*_, _<_, _≤_}
 use lib.ListN.{length, take, drop, getD}
 use Rattle.book.specs.Book.{Book}
@@ -34,6 +42,7 @@ use Rattle.book.specs.Causes.{maxRecords}
 use Rattle.k2.specs.Bits.{bitAt}
 use Rattle.k2.specs.PairSets.{Cells, union, transpose, product, closure}
 use Rattle.paths.specs.Expressions.{Expr}
+use Rattle.paths.specs.Grammar.{Verdict}
 use Rattle.paths.specs.Chains.{Graph, asked}
 use Rattle.paths.specs.Relations.{crossedBy, zeroSteps, cells, pairs}
 use Rattle.paths.specs.Questions.{rowWidth, rowsWork}
@@ -43,17 +52,15 @@ use Rattle.reader.specs.Letters.{lettersIn}
 use Rattle.reader.specs.Code.{itemOf, does, run}
 use Rattle.reader.specs.Running.{operands}
 use Rattle.rows.specs.Rows.{flat}
+use Rattle.bits.specs.BitSets.{Gap}
 use Rattle.grid.specs.Grid.{first, second}
 use Rattle.query.specs.Asking.{maxPairs}
+use Rattle.query.specs.Leaving.{Leaves}
 use Rattle.query.specs.Evaluation.{relations, most-waiting, Coded, Height, usedBelow, Lettered}
+use Rattle.register.specs.Representation.{Represents}
+use Rattle.register.specs.declared.Register.{Register}
 use Rattle.rowpairs.specs.declared.Next.{Next}
-
-pub record Space (n w cells masks : ℕ) : Type 0 where
-  pub small : n ≤ maxRecords
-  pub narrow : w ≤ 16
-  pub wide : n ≤ w * 64
-  pub words : n * w + n * w + w ≤ cells
-  pub marks : n + n < masks
+use Rattle.rowpairs.specs.declared.Related.{Related}
 
 pub record Lent (n k cells masks : ℕ) : Type 0 where
   pub small : n ≤ maxRecords
@@ -115,3 +122,33 @@ pub record ValueInRows (n : ℕ) (links marks c rows : List ℕ) (t : ℕ) : Typ
   pub few : t ≤ maxPairs
   pub value : (b : Book) → Known b n links marks → (s : List ℕ) (e : Expr) → Coded s e c
       → (bitAt rows ≡ flat (cells (asked b) e)) × (t ≡ length (pairs (asked b) e))
+
+pub record Runnable (n : ℕ) (marks c : List ℕ) : Type 0 where
+  pub small : n ≤ maxRecords
+  pub marked : n ≤ length marks
+  pub coded : (s : List ℕ) × (e : Expr) × Coded s e c
+
+pub record Enough (n work : ℕ) : Type 0 where
+  pub own : work < rowsWork n → n ≤ 32
+  pub front : n * rowWidth n ≤ work
+
+abbrev pub KnownOf : Register → (n : ℕ) → (links marks : List ℕ) → Type 0
+KnownOf r n links marks = (b : Book) → Represents r b → Known b n links marks
+
+abbrev pub relationIn : (ws ms : List ℕ) → ℕ → Cells
+relationIn ws ms n = first n (rowWidth n) ws ms
+
+pub record Column (f : ℕ → ℕ) (y n r : ℕ) : Type 0 where
+  pub high : r ≤ n
+  pub low : r < n → y ≤ r
+  pub gap : Gap f y r
+  pub hit : r < n → f r ≡ 1
+
+pub record Held (n words : ℕ) : Type 0 where
+  pub small : n ≤ maxRecords
+  pub front : n * rowWidth n ≤ words
+
+pub record Relating (r : Register) (v : Verdict) (work : ℕ) (ws : List ℕ) (q : Related) : Type 0 where
+  pub leaves : Leaves r v work (relationIn ws (q .masks)) (q .answer)
+  pub held : (n : ℕ) → q .answer ≡ Count n → Held n (length ws)
+  pub masks : length (q .masks) ≡ maxRecords

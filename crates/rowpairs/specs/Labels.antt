@@ -26,8 +26,8 @@ use Rattle.paths.specs.Relations.{joins}
 use Rattle.reader.specs.declared.items.Item.the-variants.{Letters}
 use Rattle.reader.specs.Code.{itemOf}
 use Rattle.reader.specs.Letters.{lettersIn}
-use Rattle.register.specs.Lookups.{LabelPart}
-use Rattle.rows.specs.Rows.{linkPair}
+use Rattle.links.specs.Lookups.{LabelPart}
+use Rattle.links.specs.Links.{linkPair}
 use Rattle.grid.specs.Grid.{first}
 use Rattle.query.specs.Evaluation.{Lettered}
 

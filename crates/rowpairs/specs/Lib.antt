@@ -1,2 +1,3 @@
 pub mod Evaluation
 pub mod Labels
+pub mod RelatingLaws

@@ -5,8 +5,8 @@
 --   crossing ps qs    the pairs of two lists, the second's exchanged
 --   crossed-forward, crossed-against
 --                     a word more, forward and then against
---   crossed-is, crossed-start, crossed-all
---                     so link words one after another: they are the words crossed; none, all
+--   crossed-is, crossed-start
+--                     so link words one after another: they are the words crossed; none
 --   diagonal-none, diagonal-more, diagonal-skip, diagonal-all
 --                     the diagonal: no record, one in the set, one that is not, all
 --   rows-of, rows-in  rows that lie below n, from their gaps; and what a bit of them says
@@ -20,7 +20,7 @@ use native.Mathlib.Decide.{decLt, ℕ-discrete}
 use native.Mathlib.Omega.{arith}
 use lib.Dec.{eqb, ltb}
 use lib.ListN.{length, getD, take}
-use lib.Seq.{take-suc, take-length}
+use lib.Seq.{take-suc}
 use borrow.Author.Tests.{eq-eqb, ne-eqb, lt-ltb, le-ltb}
 use Rattle.book.specs.Basics.{pick, bit, has}
 use Rattle.k2.specs.Bits.{digit, bitAt}
@@ -29,7 +29,8 @@ use Rattle.k2.specs.PairSets.{Cells, IsSet, setOf, union, transpose, diagonal}
 use Rattle.k2.specs.PairSetLaws.{set-bit, set-past}
 use Rattle.bits.specs.BitSets.{put, Gap}
 use Rattle.bits.specs.BitSetLaws.{put-at, put-off}
-use Rattle.rows.specs.Rows.{flat, linkPair, labelled, crossedWords, RowsOf}
+use Rattle.rows.specs.Rows.{flat, labelled, crossedWords, RowsOf}
+use Rattle.links.specs.Links.{linkPair}
 use Rattle.rows.specs.RowLaws.{union-join, union-swap}
 use Rattle.rows.specs.Steps.{below}
 use Rattle.rows.proofs.SearchLaws.{below-in, below-out, below-skip}
@@ -190,9 +191,6 @@ crossed-is ws f a = refl
 pub crossed-start : (x : Cells) (f a : ℕ) → union x (crossedWords [] f a) ≡ x
 unfolding crossedWords labelled union transpose setOf has
 crossed-start x f a = fun-ext (λ u. fun-ext (λ y. omega arith))
-
-pub crossed-all : (ws : List ℕ) (i f a : ℕ) → i ≡ length ws → crossedWords (take i ws) f a ≡ crossedWords ws f a
-crossed-all ws i f a e = ap (λ (l : List ℕ). crossedWords l f a) (ap (λ (k : ℕ). take k ws) e ∙ take-length ws)
 
 -- ---- the diagonal
 module _ (f : ℕ → ℕ) (b : Bits f) where

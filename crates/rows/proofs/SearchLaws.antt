@@ -4,8 +4,8 @@
 --   meets-bits, meets-in, meets-word, meets-before, meets-record, record-next, record-none, served-bit
 --                  two rows, a square at a time: the bits in common, in words with none, before the first of the second row, at a record of
 --                  the first row, at its next, after its last; whether there is one
---   mask-set, mask-skip, mask-empty
---                  the mask of a row's squares: a square more, an empty one, an empty row
+--   mask-set, mask-skip, row-bits, mask-empty
+--                  the mask of a row's squares: a square more, an empty one, a row lent by itself, an empty row
 --   masks-common, masks-apart
 --                  rows have a column in common only in a square that both masks have
 --   first-square, square-inside, common-first, common-last
@@ -29,8 +29,9 @@ use native.Mathlib.Decide.{decLt, ℕ-discrete}
 use native.Mathlib.Omega.{arith}
 use lib.Bits.{bitAnd, bitOr}
 use lib.Count.{trailingZeros, trailing-le}
-use lib.ListN.{getD}
+use lib.ListN.{getD, take, drop}
 use lib.Pow.{shr-shr}
+use lib.Seq.{getD-take, getD-drop}
 use borrow.Author.Tests.{lt-ltb, le-ltb, eq-eqb, ne-eqb}
 use Rattle.k2.specs.Bits.{digit, bitAt}
 use Rattle.k2.specs.WordLaws.{trailing-set, trailing-clear}
@@ -141,22 +142,30 @@ unfolding served
 served-bit a b i j = most-bit 1024 (meets (bitAt a) (bitAt b) i j) (meets-bits a b i j)
 
 -- ---- the mask of a row's squares
-module _ (ws : List ℕ) (i s v : ℕ) (g : (k : ℕ) → k < s * 64 → digit v (k / 64) ≡ 0 → bitAt ws (i * 1024 + k) ≡ 0) where
-  pub mask-set : (k : ℕ) → k < (s + 1) * 64 → digit (bitOr v (2 ^ s)) (k / 64) ≡ 0 → bitAt ws (i * 1024 + k) ≡ 0
+module _ (ws : List ℕ) (s v : ℕ) (g : (k : ℕ) → k < s * 64 → digit v (k / 64) ≡ 0 → bitAt ws k ≡ 0) where
+  pub mask-set : (k : ℕ) → k < (s + 1) * 64 → digit (bitOr v (2 ^ s)) (k / 64) ≡ 0 → bitAt ws k ≡ 0
   mask-set k l e = go (ℕ-discrete (k / 64) s)
     where
-      go : Dec (k / 64 ≡ s) → bitAt ws (i * 1024 + k) ≡ 0
+      go : Dec (k / 64 ≡ s) → bitAt ws k ≡ 0
       go (yes p) = absurd (omega (arith, e, digit-or-pow v s (k / 64), ap (put s 1 (digit v)) p, put-at s 1 (digit v)))
       go (no p) =
           let z : (k / 64 ≡ s → ⊥) = p in
           g k (omega (arith, z)) (sym (digit-or-pow v s (k / 64) ∙ put-off s 1 (digit v) (k / 64) p) ∙ e)
 
-  pub mask-skip : getD ws (i * 16 + s) 0 ≡ 0 → (k : ℕ) → k < (s + 1) * 64 → digit v (k / 64) ≡ 0 → bitAt ws (i * 1024 + k) ≡ 0
+  pub mask-skip : getD ws s 0 ≡ 0 → (k : ℕ) → k < (s + 1) * 64 → digit v (k / 64) ≡ 0 → bitAt ws k ≡ 0
   mask-skip z k l e = go (decLt k (s * 64))
     where
-      go : Dec (k < s * 64) → bitAt ws (i * 1024 + k) ≡ 0
+      go : Dec (k < s * 64) → bitAt ws k ≡ 0
       go (yes p) = g k p e
-      go (no p) = let q : (i * 1024 + k) / 64 ≡ i * 16 + s = omega arith in bit-zero ws (i * 1024 + k) (rw q z)
+      go (no p) = let q : k / 64 ≡ s = omega arith in bit-zero ws k (rw q z)
+
+-- the bits of row i, lent by itself
+pub row-bits : (ws : List ℕ) (i n k : ℕ) → k / 64 < n → bitAt (take n (drop (i * 16) ws)) k ≡ bitAt ws (i * 1024 + k)
+unfolding bitAt
+row-bits ws i n k h =
+    let q : i * 16 + k / 64 ≡ (i * 1024 + k) / 64 = omega arith in
+    let r : k % 64 ≡ (i * 1024 + k) % 64 = omega arith in
+    ap₂ digit (getD-take n (drop (i * 16) ws) (k / 64) 0 h ∙ getD-drop (i * 16) ws (k / 64) 0 ∙ ap (λ (j : ℕ). getD ws j 0) q) r
 
 pub mask-empty : (f : ℕ → ℕ) (i v : ℕ) → Masked f i v → v ≡ 0 → EmptyRow f i
 mask-empty f i v g e k l = g k l (rw e (digit-none (k / 64)))

@@ -8,9 +8,10 @@
 --                  the rows of an intersection and of a difference, bit by bit
 --   pair-links, labelled-none, set-none
 --                  pair words read as links are their own; no label, no words; no words, no pairs
---   crossed-none, crossed-turned, crossed-pairs, crossed-set
---                  one step over link words: by no label, with the senses exchanged, over pair words as they are; it makes a set
---   places-gap     places over a gap are those before it
+--   crossed-none, crossed-turned, crossed-pairs, crossed-set, crossed-all
+--                  one step over link words: by no label, with the senses exchanged, over pair words as they are; it makes a set; over all of them
+--   length-places, places-gap
+--                  there are no more places than numbers below the bound; places over a gap are those before it
 --   pairs-in       rows of a set hold its pairs
 -- Assumes nothing.
 use mathlib.Core.Path.{_≡_, refl, sym, ap, ap₂, _∙_, fun-ext}
@@ -20,6 +21,8 @@ use Prim.Native.Nat.{ℕ, zero, suc, _+_, _-_, _*_, _/_, _%_, _≤_, _<_}
 use native.Mathlib.Nat.{add-zero, add-suc, mod-eq-of-lt}
 use native.Mathlib.Omega.{arith}
 use lib.Dec.{eqb}
+use lib.ListN.{length, take, length-append}
+use lib.Seq.{take-length}
 use Rattle.book.specs.Basics.{pick, bit, has, In, here, there}
 use Rattle.k2.specs.Bits.{digit, bitAt}
 use Rattle.k2.specs.DigitLaws.{digit-none}
@@ -28,7 +31,8 @@ use Rattle.k2.specs.PairSetLaws.{union-set, transpose-set, setOf-set}
 use Rattle.k2.specs.Trees.{treeWords}
 use Rattle.k2.specs.TreeLaws.{treeWords-none}
 use Rattle.bits.specs.BitSets.{none, both, minus, Gap}
-use Rattle.rows.specs.Rows.{flat, noPairs, linkPair, labelled, crossedWords, places, pairsIn}
+use Rattle.rows.specs.Rows.{flat, noPairs, labelled, crossedWords, places, pairsIn}
+use Rattle.links.specs.Links.{linkPair}
 
 pub flat-at : (a : Cells) (x y : ℕ) → y < 1024 → flat a (x * 1024 + y) ≡ a x y
 unfolding flat
@@ -165,6 +169,18 @@ unfolding places
 places-far f p zero g = ap (places f) (add-zero p)
 places-far f p (suc d) g =
     ap (places f) (add-suc p d) ∙ rw (g (p + d) (omega arith) (omega arith)) (append-nil (places f (p + d))) ∙ places-far f p d (λ k a b. g k a (omega arith))
+
+pub crossed-all : (ws : List ℕ) (i f a : ℕ) → i ≡ length ws → crossedWords (take i ws) f a ≡ crossedWords ws f a
+crossed-all ws i f a e = ap (λ (l : List ℕ). crossedWords l f a) (ap (λ (k : ℕ). take k ws) e ∙ take-length ws)
+
+pub length-places : (f : ℕ → ℕ) (n : ℕ) → length (places f n) ≤ n
+unfolding places
+length-places f zero = omega arith
+length-places f (suc n) = omega (arith, length-append (places f n) (ifSet (f n) n), one (f n), length-places f n)
+  where
+    one : (v : ℕ) → length (ifSet v n) ≤ 1
+    one zero = omega arith
+    one (suc v) = omega arith
 
 pub places-gap : (f : ℕ → ℕ) (p q : ℕ) → p ≤ q → Gap f p q → places f q ≡ places f p
 places-gap f p q l g = let e : q ≡ p + (q - p) = omega arith in ap (places f) e ∙ places-far f p (q - p) (λ k a b. g k a (omega arith))

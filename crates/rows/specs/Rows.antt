@@ -1,7 +1,6 @@
 -- Sets of pairs of records below 1,024 as rows of bits: 1,024 rows of 16 words, so that bit p of the rows is the pair word p.
 --   flat a          the bits of a set's rows
 --   noPairs         the set that has no pair
---   linkPair w      the pair word of a link's word, label × 1,048,576 + pair word
 --   labelled m ws   the words of the links ws whose label is in the set m of labels, bit l of which stands for the label l
 --   crossedWords ws forward against
 --                   the pairs joined by one step over the links ws: forward over those whose label is in the set `forward`, and against their sense over
@@ -16,6 +15,7 @@ use Prim.Native.Nat.{ℕ, zero, suc, _*_, _/_, _%_}
 use lib.Dec.{eqb}
 use Rattle.book.specs.Basics.{pick}
 use Rattle.k2.specs.Bits.{digit, bitAt}
+use Rattle.links.specs.Links.{linkOf, linkPair}
 use Rattle.k2.specs.PairSets.{Cells, IsSet, ifSet, setOf, union, transpose}
 
 unfoldable pub flat : Cells → ℕ → ℕ
@@ -24,12 +24,9 @@ flat a p = a (p / 1024) (p % 1024)
 unfoldable pub noPairs : Cells
 noPairs x y = 0
 
-unfoldable pub linkPair : ℕ → ℕ
-linkPair w = w % 1048576
-
 unfoldable pub labelled : ℕ → List ℕ → List ℕ
 labelled m [] = []
-labelled m (w ∷ ws) = pick (eqb (digit m (w / 1048576)) 1) (w ∷ labelled m ws) (labelled m ws)
+labelled m (w ∷ ws) = pick (eqb (digit m (linkOf w .label)) 1) (w ∷ labelled m ws) (labelled m ws)
 
 unfoldable pub crossedWords : List ℕ → ℕ → ℕ → Cells
 crossedWords ws forward against = union (setOf (map linkPair (labelled forward ws))) (transpose (setOf (map linkPair (labelled against ws))))

@@ -3,23 +3,33 @@
 ghost use mathlib.Core.Path.{_≡_};
 ghost use mathlib.Core.Bool.{true};
 ghost use mathlib.Core.List.{_++_};
-ghost use Prim.Native.Nat.{ℕ, _≤_, _<_};
+ghost use Prim.Native.Nat.{ℕ, _/_, _≤_, _<_};
 ghost use lib.Dec.{eqb};
 ghost use lib.ListN.{length, take, drop};
+ghost use Rattle.book.specs.Causes.{maxRecords};
+ghost use Rattle.k2.specs.Sizes.{rowsWords};
 ghost use Rattle.k2.specs.Bits.{digit, bitAt};
 ghost use Rattle.k2.specs.PairSets.{Cells, IsSet, union, intersection, difference, transpose, product, diagonal};
 ghost use Rattle.bits.specs.BitSets.{none};
 ghost use Rattle.rows.specs.Rows.{flat, noPairs, crossedWords, RowsOf, pairsIn};
 ghost use Rattle.rows.specs.Steps.{Masked, rowAt, Occupied, Masks, Common, served, below, withRow};
 
+// A row has as many columns as there may be records; and so many cells are there in all.
+const COLUMNS: usize = book::MAX_RECORDS;
+
+const CELLS: usize = COLUMNS * COLUMNS;
+
+// An entry of a search is a mask times this, and a record.
+const ENTRY_UNIT: u32 = COLUMNS as u32;
+
 // The pairs of a that b lacks taken out of a.
 pub fn intersect(a: &mut [u64], b: &[u64])
-    requires { ⌜ (length (now a) ≡ 16384) × (length (now b) ≡ 16384) ⌝ }
+    requires { ⌜ (length (now a) ≡ rowsWords) × (length (now b) ≡ rowsWords) ⌝ }
     ensures { λ _. ⌜ ((x y : Cells) → bitAt (now (a .entry)) ≡ flat x → bitAt (now (b .entry)) ≡ flat y
         → bitAt (now (a .exit)) ≡ flat (intersection x y)) ⌝ }
 {
     let mut i = 0;
-    while i < 16384 {
+    while i < k2::ROWS_WORDS {
         a[i] = a[i] & b[i];
         i += 1;
     }
@@ -27,12 +37,12 @@ pub fn intersect(a: &mut [u64], b: &[u64])
 
 // The pairs of b taken out of a.
 pub fn minus(a: &mut [u64], b: &[u64])
-    requires { ⌜ (length (now a) ≡ 16384) × (length (now b) ≡ 16384) ⌝ }
+    requires { ⌜ (length (now a) ≡ rowsWords) × (length (now b) ≡ rowsWords) ⌝ }
     ensures { λ _. ⌜ ((x y : Cells) → bitAt (now (a .entry)) ≡ flat x → bitAt (now (b .entry)) ≡ flat y
         → bitAt (now (a .exit)) ≡ flat (difference x y)) ⌝ }
 {
     let mut i = 0;
-    while i < 16384 {
+    while i < k2::ROWS_WORDS {
         a[i] = a[i] & !b[i];
         i += 1;
     }
@@ -40,11 +50,11 @@ pub fn minus(a: &mut [u64], b: &[u64])
 
 // Rows that hold no pair.
 pub fn clear(rows: &mut [u64])
-    requires { ⌜ length (now rows) ≡ 16384 ⌝ }
+    requires { ⌜ length (now rows) ≡ rowsWords ⌝ }
     ensures { λ _. ⌜ bitAt (now (rows .exit)) ≡ flat noPairs ⌝ }
 {
     let mut i = 0;
-    while i < 16384 {
+    while i < k2::ROWS_WORDS {
         rows[i] = 0;
         i += 1;
     }
@@ -52,14 +62,14 @@ pub fn clear(rows: &mut [u64])
 
 // Each record of a set joined to itself; the set is lent as 1,024 bits.
 pub fn set_diagonal(rows: &mut [u64], records: &[u64])
-    requires { ⌜ (length (now rows) ≡ 16384) × (length (now records) ≡ 16) ⌝ }
+    requires { ⌜ (length (now rows) ≡ rowsWords) × (length (now records) ≡ 16) ⌝ }
     ensures { λ _. ⌜ ((x : Cells) → bitAt (now (rows .entry)) ≡ flat x
         → bitAt (now (rows .exit)) ≡ flat (union x (diagonal (bitAt (now (records .entry)))))) ⌝ }
 {
     let mut i = 0;
-    while i < 1024 {
+    while i < COLUMNS {
         if bits::bit(records, i) == 1 {
-            bits::set_bit(rows, i * 1024 + i);
+            bits::set_bit(rows, i * COLUMNS + i);
         }
         i += 1;
     }
@@ -75,22 +85,23 @@ pub fn has_label(labels: u32, label: u32) -> bool
     (labels >> label) % 2 == 1
 }
 
-// The pairs of link words put in: of links whose label is in `forward` as they are, of those whose label is in `against` exchanged. A link's word is
-// label * 1048576 + pair word, and a pair word is the word of a link of label 0.
+// The pairs of link words put in: of links whose label is in `forward` as they are, of those whose label is in `against` exchanged. A pair
+// word is the word of a link of label 0.
 pub fn put_letters(words: &[u32], forward: u32, against: u32, rows: &mut [u64])
-    requires { ⌜ length (now rows) ≡ 16384 ⌝ }
+    requires { ⌜ length (now rows) ≡ rowsWords ⌝ }
     ensures { λ _. ⌜ ((x : Cells) → bitAt (now (rows .entry)) ≡ flat x
         → bitAt (now (rows .exit)) ≡ flat (union x (crossedWords (now (words .entry)) forward against))) ⌝ }
 {
     let mut i = 0;
     while i < words.len() {
-        let label = words[i] / 1048576;
-        let p = (words[i] % 1048576) as usize;
+        let word = words[i];
+        let label = links::label_of(word);
+        let p = links::pair_of(word) as usize;
         if has_label(forward, label) {
             bits::set_bit(rows, p);
         }
         if has_label(against, label) {
-            bits::set_bit(rows, p % 1024 * 1024 + p / 1024);
+            bits::set_bit(rows, p % COLUMNS * COLUMNS + p / COLUMNS);
         }
         i += 1;
     }
@@ -98,15 +109,15 @@ pub fn put_letters(words: &[u32], forward: u32, against: u32, rows: &mut [u64])
 
 // How many pairs the first n rows hold. Of the rows of a set below n they are the set's, ascending (RowLaws `pairs-in`).
 pub fn count_pairs(rows: &[u64], n: usize) -> usize
-    requires { ⌜ n ≤ 1024 ⌝ }
+    requires { ⌜ n ≤ maxRecords ⌝ }
     ensures { λ r. ⌜ r ≡ length (pairsIn n (now (rows .entry))) ⌝ }
 {
-    bits::rank(rows, n * 1024)
+    bits::rank(rows, n * COLUMNS)
 }
 
 // Their words, ascending, as many as the list takes; the words past them are left.
 pub fn write_pairs(rows: &[u64], n: usize, out: &mut [u32])
-    requires { ⌜ (n ≤ 1024) × (length (now rows) ≡ 16384) ⌝ }
+    requires { ⌜ (n ≤ maxRecords) × (length (now rows) ≡ rowsWords) ⌝ }
     ensures { λ _. ⌜ now (out .exit) ≡ take (length (now (out .entry))) (pairsIn n (now (rows .entry)))
         ++ drop (length (pairsIn n (now (rows .entry)))) (now (out .entry)) ⌝ }
 {
@@ -132,29 +143,29 @@ pub fn write_pairs(rows: &[u64], n: usize, out: &mut [u32])
 
 // Are these the rows of a set of pairs below n?
 pub fn within(rows: &[u64], n: usize) -> bool
-    requires { ⌜ (n ≤ 1024) × (length (now rows) ≡ 16384) ⌝ }
+    requires { ⌜ (n ≤ maxRecords) × (length (now rows) ≡ rowsWords) ⌝ }
     ensures { λ r. ⌜ (r ≡ true → RowsOf n (now (rows .entry))) × (RowsOf n (now (rows .entry)) → r ≡ true) ⌝ }
 {
     let mut i = 0;
     while i < n {
-        let end = i * 1024 + 1024;
-        if bits::next(rows, i * 1024 + n, end) < end {
+        let end = i * COLUMNS + COLUMNS;
+        if bits::next(rows, i * COLUMNS + n, end) < end {
             return false;
         }
         i += 1;
     }
-    bits::next(rows, n * 1024, 1048576) == 1048576
+    bits::next(rows, n * COLUMNS, CELLS) == CELLS
 }
 
-// The squares of row i that are not empty, as bits.
-pub fn squares(rows: &[u64], i: usize) -> u32
-    requires { ⌜ (length (now rows) ≡ 16384) × (i < 1024) ⌝ }
-    ensures { λ r. ⌜ (r < 65536) × Masked (bitAt (now (rows .entry))) i r ⌝ }
+// The words of a row that are not empty, as bits.
+fn filled_words(row: &[u64]) -> u32
+    requires { ⌜ length (now row) ≡ 16 ⌝ }
+    ensures { λ r. ⌜ (r < 65536) × ((k : ℕ) → k < maxRecords → digit r (k / 64) ≡ 0 → bitAt (now (row .entry)) k ≡ 0) ⌝ }
 {
     let mut mask: u32 = 0;
     let mut s = 0;
     while s < 16 {
-        if rows[i * 16 + s] != 0 {
+        if row[s] != 0 {
             mask = mask | (1 << s);
         }
         s += 1;
@@ -162,10 +173,18 @@ pub fn squares(rows: &[u64], i: usize) -> u32
     mask
 }
 
+// The squares of row i that are not empty, as bits.
+pub fn squares(rows: &[u64], i: usize) -> u32
+    requires { ⌜ (length (now rows) ≡ rowsWords) × (i < maxRecords) ⌝ }
+    ensures { λ r. ⌜ (r < 65536) × Masked (bitAt (now (rows .entry))) i r ⌝ }
+{
+    filled_words(&rows[i * 16..i * 16 + 16])
+}
+
 // The rows below n that are not empty, ascending, each an entry: its squares * 1024 + its number. How many there are.
 fn occupied(rows: &[u64], n: usize, list: &mut [u32]) -> usize
-    requires { ⌜ (n ≤ 1024) × (length (now rows) ≡ 16384) × (length (now list) ≡ 1024) ⌝ }
-    ensures { λ m. ⌜ (m ≤ 1024) × Occupied (bitAt (now (rows .entry))) n (rowAt n m (now (list .exit))) m
+    requires { ⌜ (n ≤ maxRecords) × (length (now rows) ≡ rowsWords) × (length (now list) ≡ maxRecords) ⌝ }
+    ensures { λ m. ⌜ (m ≤ maxRecords) × Occupied (bitAt (now (rows .entry))) n (rowAt n m (now (list .exit))) m
         × Masks (bitAt (now (rows .entry))) m (now (list .exit)) ⌝ }
 {
     let mut m = 0;
@@ -173,7 +192,7 @@ fn occupied(rows: &[u64], n: usize, list: &mut [u32]) -> usize
     while i < n {
         let mask = squares(rows, i);
         if mask != 0 {
-            list[m] = mask * 1024 + i as u32;
+            list[m] = mask * ENTRY_UNIT + i as u32;
             m += 1;
         }
         i += 1;
@@ -185,7 +204,7 @@ fn occupied(rows: &[u64], n: usize, list: &mut [u32]) -> usize
 // first to the last of those in common, and in each over the records of row i from the first of row j on, lowest first, each tried in row j; it is
 // left at the first that serves. A square whose words have no bit in common is passed at once.
 fn serves(a: &[u64], i: usize, b: &[u64], j: usize, common: u32) -> u64
-    requires { ⌜ (length (now a) ≡ 16384) × (i < 1024) × (length (now b) ≡ 16384) × (j < 1024) × (0 < common) × (common < 65536) ⌝ }
+    requires { ⌜ (length (now a) ≡ rowsWords) × (i < maxRecords) × (length (now b) ≡ rowsWords) × (j < maxRecords) × (0 < common) × (common < 65536) ⌝ }
     ensures { λ r. ⌜ (Common (bitAt (now (a .entry))) (bitAt (now (b .entry))) i j common
         → r ≡ served (bitAt (now (a .entry))) (bitAt (now (b .entry))) i j) ⌝ }
 {
@@ -224,7 +243,8 @@ fn product_row(
     m: usize,
     row: &mut [u64],
 )
-    requires { ⌜ (length (now a) ≡ 16384) × (i < 1024) × (mask < 65536) × (length (now columns) ≡ 16384) × (length (now list) ≡ 1024) × (m ≤ 1024)
+    requires { ⌜ (length (now a) ≡ rowsWords) × (i < maxRecords) × (mask < 65536) × (length (now columns) ≡ rowsWords)
+        × (length (now list) ≡ maxRecords) × (m ≤ maxRecords)
         × (length (now row) ≡ 16) ⌝ }
     ensures { λ _. ⌜ ((n : ℕ) → Masked (bitAt (now (a .entry))) i mask → Occupied (bitAt (now (columns .entry))) n (rowAt n m (now (list .entry))) m
         → Masks (bitAt (now (columns .entry))) m (now (list .entry)) → bitAt (now (row .entry)) ≡ none
@@ -233,9 +253,9 @@ fn product_row(
     let mut t = 0;
     while t < m {
         let entry = list[t];
-        let common = mask & (entry / 1024);
+        let common = mask & (entry / ENTRY_UNIT);
         if common != 0 {
-            let j = (entry % 1024) as usize;
+            let j = (entry % ENTRY_UNIT) as usize;
             if serves(a, i, columns, j, common) == 1 {
                 bits::set_bit(row, j);
             }
@@ -246,7 +266,7 @@ fn product_row(
 
 // A row stored as row i.
 fn store_row(row: &[u64], rows: &mut [u64], i: usize)
-    requires { ⌜ (length (now row) ≡ 16) × (length (now rows) ≡ 16384) × (i < 1024) ⌝ }
+    requires { ⌜ (length (now row) ≡ 16) × (length (now rows) ≡ rowsWords) × (i < maxRecords) ⌝ }
     ensures { λ _. ⌜ bitAt (now (rows .exit)) ≡ withRow i (bitAt (now (row .entry))) (bitAt (now (rows .entry))) ⌝ }
 {
     let mut s = 0;
@@ -258,11 +278,11 @@ fn store_row(row: &[u64], rows: &mut [u64], i: usize)
 
 // The product, left in a; the second operand is lent by its columns, transposed. A row of the product depends on that row of a alone.
 pub fn compose(a: &mut [u64], columns: &[u64], n: usize)
-    requires { ⌜ (n ≤ 1024) × (length (now a) ≡ 16384) × (length (now columns) ≡ 16384) ⌝ }
+    requires { ⌜ (n ≤ maxRecords) × (length (now a) ≡ rowsWords) × (length (now columns) ≡ rowsWords) ⌝ }
     ensures { λ _. ⌜ ((x y : Cells) → IsSet n x → IsSet n y → bitAt (now (a .entry)) ≡ flat x → bitAt (now (columns .entry)) ≡ flat (transpose y)
         → bitAt (now (a .exit)) ≡ flat (product n x y)) ⌝ }
 {
-    let mut list: [u32; 1024] = [0; 1024];
+    let mut list: [u32; COLUMNS] = [0; COLUMNS];
     let m = occupied(columns, n, &mut list);
     let mut i = 0;
     while i < n {

@@ -19,10 +19,9 @@ use Rattle.k2.specs.Bits.{digit}
 use Rattle.k2.specs.DigitLaws.{digit-none, digit-or}
 use Rattle.automaton.specs.Automata.{On}
 use Rattle.automaton.specs.LevelLaws.{Which, less, same, more, which}
-use Rattle.arcs.specs.ArcLaws.{none-on, some-on}
 use Rattle.search.specs.Levels.{numberAt, Stamped, Committed}
 use Rattle.search.specs.Frontiers.{Listed, Frontier, Zero}
-use Rattle.search.proofs.LowestLaws.{Digit, is-on, is-off, digit-of}
+use Rattle.automaton.specs.LowestLaws.{none-on, some-on, Digit, is-on, is-off, digit-of}
 use Rattle.search.proofs.FrontierLaws.{listed-some}
 
 -- an empty level, committed by nothing

@@ -1,11 +1,11 @@
--- Laws of the records of a level: states added, records listed, the level of one record.
+-- Laws of the records of a level: states added, records queued, the level of one record.
 --   added-zero, added-past, added-more
 --                   states added to a record: none, to no record, some
 --   listed-none, listed-some, listed-fits
---                   the records listed: none; each has a state; at most 1,024
+--                   the records queued: none; each has a state; at most 1,024
 --   list-room, listed-new, listed-old
---                   a record more: there is room, it is new, or it is listed already
---   listed-take     the records listed, alone
+--                   a record more: there is room, it is new, or it is queued already
+--   listed-take     the records queued, alone
 --   none-listed     an empty list is an empty level
 --   frontier-start  the level of one record
 -- Assumes nothing.
@@ -18,15 +18,14 @@ use lib.Bits.{bitOr}
 use lib.ListN.{length, getD, set, take, replicate, getD-replicate}
 use lib.Seq.{getD-set-same, getD-set-other, getD-take, length-take-le}
 use Rattle.k2.specs.Bits.{digit, onesBelow}
-use Rattle.k2.specs.BitLaws.{ones-le}
+use Rattle.k2.specs.BitLaws.{ones-le, ones-most}
 use Rattle.k2.specs.DigitLaws.{digit-none, digit-or}
 use Rattle.k2.specs.WordLaws.{or-none}
 use Rattle.automaton.specs.Automata.{On}
 use Rattle.automaton.specs.LevelLaws.{Which, less, same, more, which}
-use Rattle.arcs.specs.ArcLaws.{some-on}
 use Rattle.search.specs.Frontiers.{Added, hasState, Listed, Frontier, Zero}
-use Rattle.search.proofs.LowestLaws.{Digit, is-on, is-off, digit-of}
-use Rattle.search.proofs.LevelLaws.{ones-mono, ones-less, mask-here, mask-off}
+use Rattle.automaton.specs.LowestLaws.{some-on, Digit, is-on, is-off, digit-of}
+use Rattle.search.proofs.LevelLaws.{ones-less, mask-here, mask-off}
 
 -- ---- states added
 pub added-zero : (nx : List ℕ) (n r v : ℕ) → v ≡ 0 → Added nx n r v nx
@@ -99,7 +98,7 @@ module _ {list : List ℕ} {c n : ℕ} {nx : List ℕ} (I : Listed list c n nx) 
         some = λ i h. more-at (getD list i 0) (I .some i h);
         all = λ a h. al a h (ℕ-discrete a r);
         apart = I .apart;
-        room = (let z = I .room in let y = ones-mono (hasState nx) (hasState nx₁) 1024 (λ i h. grows i) in omega arith);
+        room = (let z = I .room in let y = ones-most (hasState nx) (hasState nx₁) 1024 (λ i h. grows i) in omega arith);
       }
     where
       al : (a : ℕ) → 0 < getD nx₁ a 0 → Dec (a ≡ r) → (i : ℕ) × (i < c) × (getD list i 0 ≡ a)
@@ -157,7 +156,7 @@ module _ {list : List ℕ} {c n : ℕ} {nx : List ℕ} (I : Listed list c n nx) 
             omega arith
         ap′ i j l h (more f) e = omega arith
 
--- ---- the records listed, alone
+-- ---- the records queued, alone
 pub listed-take : {list : List ℕ} {c n : ℕ} {nx : List ℕ} → Listed list c n nx → c ≤ length list → Listed (take c list) (length (take c list)) n nx
 listed-take {list} {c} I h = rw (length-take-le c list h) (record {
   small = λ i l. rw (same-at i l) (I .small i l);

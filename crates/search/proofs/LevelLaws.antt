@@ -1,8 +1,7 @@
 -- The levels backward: what the search knows, kept level by level.
 --   distance-on, distance-off, distance-seen
 --                        the number counts where the state was seen
---   ones-mono, ones-less, ones-most
---                        how many bits are set: not more, fewer, at most all
+--   ones-less, bits-few  how many bits are set: fewer, at most all
 --   level-falls          a level that is not empty has more states seen, so fewer are left
 --   step-arc, shut, arc-moves
 --                        the arc of a step, that no step leads out of the records below n, and the step of an arc
@@ -25,7 +24,7 @@ use native.Mathlib.Decide.{decLt}
 use lib.ListN.{length, getD, set, replicate, length-replicate, List·getD-eq-default}
 use lib.Seq.{getD-set-same, getD-set-other}
 use Rattle.k2.specs.Bits.{digit, bitAt, onesBelow}
-use Rattle.k2.specs.BitLaws.{ones-le}
+use Rattle.k2.specs.BitLaws.{ones-le, zeros-at, ones-most}
 use Rattle.k2.specs.DigitLaws.{digit-lt, digit-none}
 use Rattle.paths.specs.Chains.{Graph, Step, crossing}
 use Rattle.automaton.specs.Automata.{On, Automaton}
@@ -33,11 +32,10 @@ use Rattle.automaton.specs.Masks.{letterNumber}
 use Rattle.automaton.specs.Searches.{Walk, Moves, Reach, Shut, Known, Grown}
 use Rattle.automaton.specs.LevelLaws.{walk-stop, walk-ends, known-grown, known-none, Which, less, same, more, which}
 use Rattle.arcs.specs.Arcs.{arcFrom, arcTo, arcLetter, letterOf, arcStep}
-use Rattle.arcs.specs.ArcLaws.{none-on, number-letter}
+use Rattle.arcs.specs.ArcLaws.{number-letter}
 use Rattle.search.specs.Levels.{Setting, numberAt, distance, Levelled, Stamped, Committed, Sought, found}
 use Rattle.search.specs.Frontiers.{Zero}
-use Rattle.search.proofs.LowestLaws.{Digit, is-on, is-off, digit-of}
-use Rattle.search.proofs.MaskLaws.{zero-at}
+use Rattle.automaton.specs.LowestLaws.{none-on, Digit, is-on, is-off, digit-of}
 
 -- ---- the number counts where the state was seen
 module _ (w seen : List ℕ) (r q : ℕ) where
@@ -60,24 +58,19 @@ module _ (w seen : List ℕ) (r q : ℕ) where
       go (is-off e) = absurd (let z = distance-off e in omega arith)
 
 -- ---- how many bits are set
-pub ones-mono : (f g : ℕ → ℕ) (k : ℕ) → ((i : ℕ) → i < k → f i ≤ g i) → onesBelow f k ≤ onesBelow g k
-unfolding onesBelow
-ones-mono f g zero h = omega arith
-ones-mono f g (suc k) h = let z = ones-mono f g k (λ i l. h i (omega arith)) in let y = h k (omega arith) in omega arith
-
 pub ones-less : (f g : ℕ → ℕ) (k j : ℕ) → ((i : ℕ) → i < k → f i ≤ g i) → j < k → f j < g j → onesBelow f k < onesBelow g k
 unfolding onesBelow
 ones-less f g zero j h l s = absurd (omega arith)
-ones-less f g (suc k) j h l s = go (which j k) (ones-less f g k j (λ i m. h i (omega arith))) (ones-mono f g k (λ i m. h i (omega arith))) (h k (omega arith))
+ones-less f g (suc k) j h l s = go (which j k) (ones-less f g k j (λ i m. h i (omega arith))) (ones-most f g k (λ i m. h i (omega arith))) (h k (omega arith))
   where
     go : Which j k → (j < k → f j < g j → onesBelow f k < onesBelow g k) → onesBelow f k ≤ onesBelow g k → f k ≤ g k → onesBelow f k + f k < onesBelow g k + g k
     go (less m) ih a b = let z = ih m s in omega arith
     go (same m) ih a b = let z : f k < g k = rw m at s in omega arith
     go (more m) ih a b = absurd (omega arith)
 
-pub ones-most : (ws : List ℕ) (k : ℕ) → onesBelow (bitAt ws) k ≤ k
+pub bits-few : (ws : List ℕ) (k : ℕ) → onesBelow (bitAt ws) k ≤ k
 unfolding bitAt
-ones-most ws k = ones-le (bitAt ws) (λ i. digit-lt (getD ws (i / 64) 0) (i % 64)) k
+bits-few ws k = ones-le (bitAt ws) (λ i. digit-lt (getD ws (i / 64) 0) (i % 64)) k
 
 -- a level that is not empty has more states seen
 pub level-falls : {cs ps es cur seen : List ℕ} {m mark n : ℕ} {nx w w′ seen′ : List ℕ} → Levelled cs ps es cur seen n m nx
@@ -227,7 +220,7 @@ pub mask-here : (k y v : ℕ) → y < k → getD {A = ℕ} (set (replicate k 0) 
 mask-here k y v h = getD-set-same {A = ℕ} (replicate k 0) y v 0 (rw (length-replicate {A = ℕ} k 0) h)
 
 pub mask-off : (k y v r : ℕ) → (r ≡ y → ⊥) → getD {A = ℕ} (set (replicate k 0) y v) r 0 ≡ 0
-mask-off k y v r h = getD-set-other {A = ℕ} (replicate k 0) y r v 0 h ∙ zero-at k r
+mask-off k y v r h = getD-set-other {A = ℕ} (replicate k 0) y r v 0 h ∙ zeros-at k r
 
 module _ {g : Graph} {M : Automaton} {fs ps es : List ℕ} {f n : ℕ} {cs : List ℕ} {k : ℕ} (S : Setting g M fs ps es f n cs k)
     {y : ℕ} {w₀ w : List ℕ} (T : Stamped w₀ y f 1 0 w) (m : List ℕ) (m-here : getD m y 0 ≡ f) (m-off : (r : ℕ) → (r ≡ y → ⊥) → getD m r 0 ≡ 0) where

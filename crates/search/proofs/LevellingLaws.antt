@@ -18,8 +18,8 @@ use Rattle.k2.specs.DigitLaws.{digit-lt, digit-none, digit-and, digit-not}
 use Rattle.automaton.specs.Automata.{On}
 use Rattle.automaton.specs.SetLaws.{on-max, on-min}
 use Rattle.automaton.specs.LevelLaws.{Which, less, same, more, which}
+use Rattle.automaton.specs.LowestLaws.{none-on, some-on}
 use Rattle.arcs.specs.Arcs.{arcFrom, arcTo, arcLetter}
-use Rattle.arcs.specs.ArcLaws.{none-on, some-on}
 use Rattle.arcs.specs.Index.{firstArc, nextArc, Cursor, Indexed}
 use Rattle.arcs.specs.IndexLaws.{before-first, only-arc}
 use Rattle.search.specs.Levels.{Spread, Levelled, LevelledOver}

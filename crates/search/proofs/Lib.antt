@@ -1,4 +1,3 @@
-pub mod LowestLaws
 pub mod MaskLaws
 pub mod MarkLaws
 pub mod LevelLaws

@@ -24,10 +24,9 @@ use Rattle.automaton.specs.Automata.{On}
 use Rattle.automaton.specs.SetLaws.{on-max, on-min, on-is}
 use Rattle.automaton.specs.LevelLaws.{Which, less, same, more, which}
 use Rattle.arcs.specs.Arcs.{arcFrom, arcTo, arcLetter, arcStepWord}
-use Rattle.arcs.specs.ArcLaws.{none-on}
 use Rattle.search.specs.Levels.{numberAt, Stamped}
 use Rattle.search.specs.Steps.{Kept, Serve, Chosen, Better, no-states, not-less, less as smaller}
-use Rattle.search.proofs.LowestLaws.{some-digit, below-pow, Lowest, gone, Among}
+use Rattle.automaton.specs.LowestLaws.{none-on, some-digit, below-pow, Lowest, gone, Among}
 
 -- ---- a number written
 module _ (w : List ℕ) (r q v : ℕ) where

@@ -1,23 +1,17 @@
 -- Laws of words of states: a list of zeros, and rows joined. Assumes nothing.
-use mathlib.Core.Path.{_≡_, refl}
+use mathlib.Core.Path.{_≡_}
 use mathlib.Core.Logic.{_⊎_, inl, inr}
 use mathlib.Core.List.{List}
-use Prim.Native.Nat.{ℕ, zero, suc, _<_, max}
+use Prim.Native.Nat.{ℕ, _<_, max}
 use native.Mathlib.Omega.{arith}
 use lib.Bits.{bitOr}
-use lib.ListN.{getD, replicate}
+use lib.ListN.{getD}
 use Rattle.k2.specs.Bits.{digit}
 use Rattle.k2.specs.DigitLaws.{digit-or}
 use Rattle.automaton.specs.Automata.{On}
 use Rattle.automaton.specs.SetLaws.{on-max}
-use Rattle.arcs.specs.ArcLaws.{none-on}
 use Rattle.search.specs.Levels.{Spread}
-use Rattle.search.proofs.LowestLaws.{Lowest, gone, Among}
-
-pub zero-at : (n i : ℕ) → getD {A = ℕ} (replicate n 0) i 0 ≡ 0
-zero-at zero i = refl
-zero-at (suc n) zero = refl
-zero-at (suc n) (suc i) = zero-at n i
+use Rattle.automaton.specs.LowestLaws.{none-on, Lowest, gone, Among}
 
 -- ---- rows joined
 pub spread-none : (rows : List ℕ) (x : ℕ) → Spread rows x x 0

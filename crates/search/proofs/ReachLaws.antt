@@ -7,7 +7,7 @@
 --                    one arc more; and no more is to be done then
 --   ones-but         how many bits are set, but for one
 --   listed-less, expanding-pop, fewer-pop
---                    the record last listed is taken off: the list, what is known, and that less is to be done
+--                    the record last queued is taken off: the list, what is known, and that less is to be done
 --   expanding-start  at the start
 --   expanding-all    at the end
 --   came-walk, walk-in, ended
@@ -25,6 +25,7 @@ use lib.ListN.{length, getD, set}
 use lib.Seq.{getD-set-same, getD-set-other}
 use Rattle.k2.specs.Bits.{digit, bitAt, onesBelow}
 use Rattle.k2.specs.DigitLaws.{digit-lt, digit-none, digit-and, digit-not}
+use Rattle.k2.specs.BitLaws.{ones-most}
 use Rattle.paths.specs.Expressions.{Expr}
 use Rattle.paths.specs.Chains.{Graph, Step, spell, Has}
 use Rattle.paths.specs.ChainLaws.{Inside, in-use-on}
@@ -35,15 +36,14 @@ use Rattle.automaton.specs.Searches.{Walk}
 use Rattle.automaton.specs.WalkLaws.{answers-walk}
 use Rattle.automaton.specs.LevelLaws.{walk-stop, walk-more, walk-ends, walk-less}
 use Rattle.arcs.specs.Arcs.{arcFrom, arcTo, arcLetter}
-use Rattle.arcs.specs.ArcLaws.{none-on, some-on}
 use Rattle.arcs.specs.Index.{firstArc, nextArc, Cursor, Indexed}
 use Rattle.arcs.specs.IndexLaws.{before-first, only-arc}
 use Rattle.search.specs.Levels.{Setting, Spread}
 use Rattle.search.specs.Frontiers.{Added, hasState, Listed, Zero}
 use Rattle.search.specs.Reaching.{Came, begins, onward, Due, Expanding, Reached, toDo, Fewer, Ended}
-use Rattle.search.proofs.LowestLaws.{Digit, is-on, is-off, digit-of, some-digit, below-pow}
+use Rattle.automaton.specs.LowestLaws.{none-on, some-on, Digit, is-on, is-off, digit-of, some-digit, below-pow}
 use Rattle.search.proofs.MarkLaws.{bit-off, bit-at}
-use Rattle.search.proofs.LevelLaws.{ones-mono, ones-less, step-arc, shut, arc-moves}
+use Rattle.search.proofs.LevelLaws.{ones-less, step-arc, shut, arc-moves}
 
 -- ---- states added
 module _ {nx : List ℕ} {n r v : ℕ} {nx′ : List ℕ} (A : Added nx n r v nx′) where
@@ -198,7 +198,7 @@ ones-but f g zero r h b = omega arith
 ones-but f g (suc k) r h b = go (ℕ-discrete k r) (ones-but f g k r h b)
   where
     go : Dec (k ≡ r) → onesBelow f k ≤ onesBelow g k + 1 → onesBelow f k + f k ≤ onesBelow g k + g k + 1
-    go (yes e) z = let x = ones-mono f g k (λ i l. h i (λ u. omega arith)) in let y : f k ≤ 1 = rw e b in omega arith
+    go (yes e) z = let x = ones-most f g k (λ i l. h i (λ u. omega arith)) in let y : f k ≤ 1 = rw e b in omega arith
     go (no e) z = let y = h k e in omega arith
 
 module _ {list : List ℕ} {c n : ℕ} {nx : List ℕ} (I : Listed list c n nx) (hc : 0 < c) where

@@ -19,28 +19,28 @@ ghost use Rattle.search.specs.Frontiers.{Levelling, Added, Listed, Front
 // The states of the entry, if its record is below n, besides those of next, whose records are on the list. How many are they now?
 pub(crate) fn add_states(next: &mut [u64], list: &mut [u16], entry: Entry) -> usize
     requires { ⌜ (entry .n ≤ maxRecords) × (length (now next) ≡ maxRecords) × (length (now list) ≡ maxRecords)
-        × (entry .at < maxRecords) × Listed (now list) (entry .listed) (entry .n) (now next) ⌝ }
+        × (entry .at < maxRecords) × Listed (now list) (entry .queued) (entry .n) (now next) ⌝ }
     ensures { λ k. ⌜ Listed (now (list .exit)) k (entry .n) (now (next .exit))
         × Added (now (next .entry)) (entry .n) (entry .at) (entry .states) (now (next .exit)) ⌝ }
 {
     let at = entry.at;
-    let listed = entry.listed;
+    let queued = entry.queued;
     if entry.states == 0 {
-        return listed;
+        return queued;
     }
     if entry.n <= at {
-        return listed;
+        return queued;
     }
     let old = next[at];
     next[at] = old | entry.states;
     if old != 0 {
-        return listed;
+        return queued;
     }
-    list[listed] = at as u16;
-    listed + 1
+    list[queued] = at as u16;
+    queued + 1
 }
 
-// The states, not seen yet, from which an arc leads to one of the entry's, besides those of next. How many records are listed now?
+// The states, not seen yet, from which an arc leads to one of the entry's, besides those of next. How many records are queued now?
 fn into(
     arcs: &[u32],
     index: &[u16],
@@ -54,7 +54,7 @@ fn into(
     requires { ⌜ (length (now arcs) ≤ maxArcs) × (length (now index) ≡ indexWords) × (length (now predecessors) ≡ 64) × (length (now enter) ≡ 64)
         × (entry .at < maxRecords) × (length (now seen) ≡ maxRecords) × (entry .n ≤ maxRecords) × (length (now next) ≡ maxRecords)
         × (length (now list) ≡ maxRecords) × Indexed (arcTo (now arcs)) (length (now arcs)) (now index)
-        × Listed (now list) (entry .listed) (entry .n) (now next) ⌝ }
+        × Listed (now list) (entry .queued) (entry .n) (now next) ⌝ }
     ensures { λ k. ⌜ Listed (now (list .exit)) k (entry .n) (now (next .exit))
         × ((cur records : List ℕ) (i : ℕ) → entry .at ≡ getD records i 0 → entry .states ≡ getD cur (entry .at) 0
         → Levelling (now (arcs .entry)) (now (predecessors .entry)) (now (enter .entry)) cur (now (seen .entry)) (entry .n) (length (now (arcs .entry))) records
@@ -62,7 +62,7 @@ fn into(
         cur (now (seen .entry)) (entry .n) (length (now (arcs .entry))) records (i + 1) (length (now (arcs .entry))) (now (next .exit))) ⌝ }
 {
     let n = entry.n;
-    let mut listed = entry.listed;
+    let mut queued = entry.queued;
     let mut cursor = arcs::first_arc(index, entry.at);
     while cursor != 0 {
         let j = cursor - 1;
@@ -70,19 +70,19 @@ fn into(
         let from = arc / 1024 % 1024;
         let before = spread(predecessors, entry.states & enter[arc / 1048576 % 64]);
         let states = before & !seen[from];
-        listed = add_states(
+        queued = add_states(
             next,
             list,
             Entry {
                 at: from,
                 states,
                 n,
-                listed,
+                queued,
             },
         );
         cursor = arcs::next_arc(index, j);
     }
-    listed
+    queued
 }
 
 // The mark at a record, at each of the states.
@@ -155,7 +155,7 @@ pub(crate) fn backward(
     let mut count = 1;
     let mut level: u64 = 0;
     while seen[start] % 2 == 0 {
-        let mut listed = 0;
+        let mut queued = 0;
         let mut i = 0;
         while i < count {
             let at = records[i] as usize;
@@ -164,9 +164,9 @@ pub(crate) fn backward(
                 at,
                 states,
                 n,
-                listed,
+                queued,
             };
-            listed = into(
+            queued = into(
                 arcs,
                 &index,
                 predecessors,
@@ -178,19 +178,19 @@ pub(crate) fn backward(
             );
             i += 1;
         }
-        if listed == 0 {
+        if queued == 0 {
             return Marks { seen, number: 0 };
         }
         commit(
             work,
             &mut seen,
             &mut next,
-            &list[0..listed],
+            &list[0..queued],
             level + 2,
             &mut records,
             &mut masks,
         );
-        count = listed;
+        count = queued;
         level += 1;
     }
     Marks {

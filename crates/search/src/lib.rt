@@ -35,7 +35,7 @@ struct Entry {
     at: usize,
     states: u64,
     n: usize,
-    listed: usize,
+    queued: usize,
 }
 
 // Of n records the one where a walk begins, and how many steps it has.

@@ -19,7 +19,7 @@ ghost use Rattle.search.specs.Levels.{Spread};
 ghost use Rattle.search.specs.Frontiers.{Listed};
 ghost use Rattle.search.specs.Reaching.{Expanding, Reached, Fewer, Ended};
 
-// The states, not seen yet, to which an arc leads from the entry's record by one of its states, seen and pending now. How many records are listed now?
+// The states, not seen yet, to which an arc leads from the entry's record by one of its states, seen and pending now. How many records are queued now?
 fn out_of(
     arcs: &[u32],
     index: &[u16],
@@ -31,7 +31,7 @@ fn out_of(
 ) -> usize
     requires { ⌜ (length (now arcs) ≤ maxArcs) × (length (now index) ≡ indexWords) × (length (now enter) ≡ 64) × (length (now seen) ≡ maxRecords)
         × (length (now pending) ≡ maxRecords) × (length (now list) ≡ maxRecords) × (entry .n ≤ maxRecords) × (entry .at < maxRecords)
-        × Indexed (arcFrom (now arcs)) (length (now arcs)) (now index) × Listed (now list) (entry .listed) (entry .n) (now pending) ⌝ }
+        × Indexed (arcFrom (now arcs)) (length (now arcs)) (now index) × Listed (now list) (entry .queued) (entry .n) (now pending) ⌝ }
     ensures { λ c. ⌜ Listed (now (list .exit)) c (entry .n) (now (pending .exit))
         × Fewer (entry .n) (now (seen .entry)) (now (pending .entry)) (now (seen .exit)) (now (pending .exit))
         × ((fs : List ℕ) (x mask : ℕ) → Spread fs mask 0 (entry .states)
@@ -41,7 +41,7 @@ fn out_of(
         0 0 0) ⌝ }
 {
     let n = entry.n;
-    let mut listed = entry.listed;
+    let mut queued = entry.queued;
     let mut cursor = arcs::first_arc(index, entry.at);
     while cursor != 0 {
         let j = cursor - 1;
@@ -50,19 +50,19 @@ fn out_of(
         let old = seen[to];
         let states = entry.states & enter[arc / 1048576 % 64] & !old;
         seen[to] = old | states;
-        listed = add_states(
+        queued = add_states(
             pending,
             list,
             Entry {
                 at: to,
                 states,
                 n,
-                listed,
+                queued,
             },
         );
         cursor = arcs::next_arc(index, j);
     }
-    listed
+    queued
 }
 
 // The states that are come to from a record and the state 0, at each record.
@@ -85,7 +85,7 @@ fn reach(
         at: from,
         states: 1,
         n,
-        listed: 0,
+        queued: 0,
     };
     let mut count = add_states(&mut pending, &mut list, first);
     while count != 0 {
@@ -97,7 +97,7 @@ fn reach(
             at,
             states,
             n,
-            listed: last,
+            queued: last,
         };
         count = out_of(
             arcs,

@@ -31,7 +31,7 @@ use Rattle.paths.specs.Chains.{asked, Step, spell, stepWords, Reply, none, chai
 use Rattle.paths.specs.Relations.{crossedBy, zeroSteps, cells, pairs}
 use Rattle.paths.specs.Questions.{ReplyTo, pairsOf, pairsCauses, pairsAnswer, steps, chainCauses, chainAnswer}
 use Rattle.paths.specs.Descent.{alternativesIn, readAlternatives}
-use Rattle.paths.specs.Verdicts.{verdict, verdict-right}
+use Rattle.paths.specs.Verdicts.{verdict, verdict-right, accepted-same}
 use Rattle.paths.specs.PairLaws.{history-inside, withdrawn-none}
 use Rattle.paths.specs.ChainOrderLaws.{before}
 use Rattle.paths.specs.AcceptanceLaws.{parted, many, accepts}
@@ -92,14 +92,11 @@ steps-found = forward 0 1 ∷ forward 1 3 ∷ []
 abbrev a/b : Expr
 a/b = sequence (symbol (letter 0)) (symbol (letter 1))
 
-same-expression : (e f : Expr) → accepted e ≡ accepted f → e ≡ f
-same-expression e f h = cc
-
 asked-last : ReplyTo (asked (after (fresh 4) history)) (accepted a/b) 0 3 (chain (stepWords steps-found))
 unfolding number firstNumber causes editAnswer edited turned undone next fresh after has without asked standsFor parted many accepts before reach stepsBelow
     before-each after-each walks walksTo end best firstTo chainTo spell stepWords letters cells most
 asked-last e h =
-    subst (λ (f : Expr). ChainIs (asked (after (fresh 4) history)) f 0 3 (chain (stepWords steps-found))) (same-expression a/b e h)
+    subst (λ (f : Expr). ChainIs (asked (after (fresh 4) history)) f 0 3 (chain (stepWords steps-found))) (accepted-same h)
     (first-chain steps-found (chain-first (asked (after (fresh 4) history)) (history-inside 4 (omega arith) history) 2 a/b 0 3 steps-found refl))
 
 last-right : Judged (bytes "a/b") (verdict (bytes "a/b"))

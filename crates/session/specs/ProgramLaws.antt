@@ -17,7 +17,7 @@ use native.Mathlib.Nat.{suc-mul, mul-le-mul}
 use native.Mathlib.Decide.{decLt}
 use native.Mathlib.Omega.{arith}
 use lib.Pow.{pow-mono}
-use lib.ListN.{length, take, drop, length-append, length-take, length-drop}
+use lib.ListN.{length, take, length-append, length-take}
 use lib.Seq.{take-all}
 use lib.Dec.{ltb, leb, eqb}
 use borrow.Author.Tests.{le-ltb, le-leb, lt-leb, ltb-false}
@@ -26,6 +26,7 @@ use Rattle.book.specs.Causes.{Cause, no-record, short-work, short-list, number,
 use Rattle.book.specs.Book.{Book, fresh}
 use Rattle.book.specs.Sheets.{Sound}
 use Rattle.book.specs.BookLaws.{first-none, next-sound, fresh-sound}
+use Rattle.book.specs.ListLaws.{length-over}
 use Rattle.k2.specs.PairSets.{Cells, pairWord, ifSet, rowPairs, rowsPairs, listed}
 use Rattle.k2.specs.Trees.{height, treeUnit}
 use Rattle.k2.specs.HeightLaws.{height-is}
@@ -34,13 +35,12 @@ use Rattle.paths.specs.Grammar.{Verdict, accepted, long, outside, large, verdic
 use Rattle.paths.specs.Chains.{asked, Reply, none, chain, ChainIs, first-chain}
 use Rattle.paths.specs.Relations.{pairs, cells}
 use Rattle.paths.specs.Questions.{paired, replied, unless, workFor, chainWork, pairsOf, pairsCauses, pairsAnswer, steps, ReplyTo, chainCauses, chainAnswer}
-use Rattle.paths.specs.Questions.{over, listAfter}
-use Rattle.paths.specs.Verdicts.{verdict, verdict-right}
+use Rattle.paths.specs.Questions.{listAfter}
+use Rattle.paths.specs.Verdicts.{verdict, verdict-right, accepted-same}
 use Rattle.paths.specs.PairLaws.{fit-inside}
-use Rattle.paths.specs.FirstChainLaws.{reply}
+use Rattle.paths.specs.FirstChainLaws.{reply, length-step-words}
 use Rattle.query.specs.AskingLaws.{outcome-paired}
 use Rattle.query.specs.WorkLaws.{rows-few}
-use Rattle.automaton.specs.WalkLaws.{length-stepWords}
 use Rattle.automaton.specs.ShortChainLaws.{chains-63}
 use Rattle.session.specs.Program.{programRecords, programWords, Frame, asks, faulty, opening, call, pairs as pairs-asked, chain as chain-asked, totalling}
 use Rattle.session.specs.Program.{Session, unopened, opened, openAnswer, rowRecords, engineFor, programPairs, nextSession, Right, listLeft}
@@ -99,9 +99,6 @@ next-steady s (asks (chain-asked x y u)) h = h
 next-steady s (asks (totalling k)) h = h
 
 -- ---- a frame leaves the list as long as it was
-length-over : (ws l : List ℕ) → length ws ≤ length l → length (over ws l) ≡ length l
-length-over ws l h = omega (arith, length-append ws (drop (length ws) l), length-drop (length ws) l)
-
 length-pairs : (k total : ℕ) (ws l : List ℕ) → length (listAfter (unless k (paired total (take (length l) ws))) l) ≡ length l
 unfolding listAfter
 length-pairs zero total ws l = length-over (take (length l) ws) l (rw length-take (omega arith))
@@ -140,13 +137,10 @@ length-left work l (opened b) (asks (chain-asked x y u)) v t =
     (length l) (first-none no-record (leb (b .n) x || leb (b .n) y) _ h .1))
 
 -- ---- every frame has a verdict and a reply
-same-expression : (e f : Expr) → accepted e ≡ accepted f → e ≡ f
-same-expression e f h = cc
-
 reply-exists : (b : Book) → Sound b → (v : Verdict) (x y : ℕ) → (t : Reply) × ReplyTo (asked b) v x y t
 reply-exists b h (accepted e) x y =
     let r = reply (asked b) (fit-inside b (h .sheet)) e x y in
-    (r .0, λ f k. subst (λ (d : Expr). ChainIs (asked b) d x y (r .0)) (same-expression e f k) (r .1))
+    (r .0, λ f k. subst (λ (d : Expr). ChainIs (asked b) d x y (r .0)) (accepted-same k) (r .1))
 reply-exists b h long x y = (none, λ e k. absurd (let z : _≡_ {A = ℕ} 0 1 = cc in omega arith))
 reply-exists b h outside x y = (none, λ e k. absurd (let z : _≡_ {A = ℕ} 0 1 = cc in omega arith))
 reply-exists b h large x y = (none, λ e k. absurd (let z : _≡_ {A = ℕ} 0 1 = cc in omega arith))
@@ -184,7 +178,7 @@ steps-few : (b : Book) → Sound b → b .n ≤ programRecords → (e : Expr) �
     → (x y : ℕ) (t : Reply) → ChainIs (asked b) e x y t → length (steps t) ≤ programWords
 unfolding steps asked
 steps-few b h m e l x y none r = omega arith
-steps-few b h m e l x y (chain ws) (first-chain ss f) = omega (arith, length-stepWords ss, chains-63 (asked b) (fit-inside b (h .sheet)) e l x y ss f)
+steps-few b h m e l x y (chain ws) (first-chain ss f) = omega (arith, length-step-words ss, chains-63 (asked b) (fit-inside b (h .sheet)) e l x y ss f)
 
 pub chain-answered : (b : Book) → Sound b → b .n ≤ programRecords → (e : Expr)
     → letters e ≤ 63 → (x y : ℕ) → x < b .n → y < b .n → (t : Reply) → ChainIs (asked b) e x y t

@@ -305,7 +305,7 @@ fn ask_chain(
 }
 
 // How many words of a list are pairs, if there are so many pairs in all.
-fn listed(total: usize, list: &[u32]) -> usize
+fn pairs_shown(total: usize, list: &[u32]) -> usize
     ensures { λ r. ⌜ (r ≤ length (now (list .entry))) × (take r (now (list .entry)) ≡ take total (now (list .entry))) ⌝ }
 {
     if list.len() < total {
@@ -321,7 +321,7 @@ fn put_listing(answer: Counted, list: &[u32], out: &mut [u8]) -> usize
 {
     match answer {
         Counted::Count(total) => {
-            let count = listed(total, list);
+            let count = pairs_shown(total, list);
             report::put_pairs(total as u64, &list[..count], out, 0)
         }
         Counted::Refused(k) => report::put_refused(k, out, 0),

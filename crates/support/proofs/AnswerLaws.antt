@@ -1,6 +1,6 @@
--- The answer in plain variables: what a relation's rows say of a record, each refusal, and the records that fall by the two marks.
+-- The answer in plain variables: what a relation says of a record, each refusal, and the records that fall by the two marks.
 --   marks-refused, marks-made
---                  the marks of a register's records: refused as the relation is, or told by its rows
+--                  the marks of a register's records: refused as the relation is, or told by it
 --   number-core, number-beyond, number-unordered
 --                  the number of the question: 2 for the core, 2 for an anchor, 20
 --   refuses-core, refuses-beyond, refuses-unordered
@@ -20,15 +20,14 @@ use Prim.Native.Nat.{ℕ, zero, suc, _+_, _-_, _*_, _≤_, _<_, min}
 use native.Mathlib.Decide.{decLt}
 use native.Mathlib.Omega.{arith}
 use lib.ListN.{length, take, drop, getD, length-drop}
-use lib.Seq.{length-take-le, take-all}
+use lib.Seq.{length-take-le}
 use lib.Dec.{leb, ltb, eqb}
-use borrow.Author.Tests.{lt-ltb, le-ltb, le-leb, lt-leb, leb-false}
+use borrow.Author.Tests.{lt-ltb, le-ltb, le-leb, lt-leb}
 use Rattle.book.specs.Basics.{pick}
 use Rattle.book.specs.Causes.{Cause, no-record, unordered-anchors, short-work, short-list, number, Caused, firstNumber, maxRecords}
 use Rattle.book.specs.Book.{Link, Book, present, isWithdrawn}
 use Rattle.book.specs.BookLaws.{caused-positive}
-use Rattle.k2.specs.Bits.{bitAt}
-use Rattle.k2.specs.PairSets.{pairWord}
+use Rattle.k2.specs.PairSets.{Cells}
 use Rattle.k2.specs.Trees.{treeUnit}
 use Rattle.k2.specs.SizeLaws.{treeUnit-some}
 use Rattle.paths.specs.Expressions.{Expr}
@@ -39,80 +38,41 @@ use Rattle.answers.specs.Answers.{counted, Whole}
 use Rattle.answers.specs.AnswerLaws.{contained-refused, whole-refused, whole-given}
 use Rattle.answers.specs.declared.Counted.{Counted}
 use Rattle.answers.specs.declared.Counted.the-variants.{Count, Refused}
-use Rattle.paths.specs.Questions.{Outcome, by-trees, refused, paired, replied, unless, pairsWork, chainWork, pairsCauses, over, listAfter, countOf, Tells}
-use Rattle.rows.specs.RowLaws.{flat-at}
+use Rattle.paths.specs.Questions.{by-trees, refused, paired, unless, pairsWork, chainWork, pairsCauses, over, listAfter, countOf, Tells}
 use Rattle.register.specs.Representation.{Represents}
 use Rattle.register.specs.Parting.{touches, withoutLinks, withoutRecord, Without}
 use Rattle.register.specs.PartingLaws.{present-without}
 use Rattle.register.specs.declared.Register.{Register}
-use Rattle.query.specs.Asking.{rowWords, relationCauses, relationAnswer, RelatesFor}
 use Rattle.query.specs.AskingLaws.{handed-tells, whole-contained}
 use Rattle.support.specs.declared.Marks.{Marks}
 use Rattle.support.specs.Support.{without, some, chosen, reaches, falls, fallen, orderly, supportWork, fallenOf, supportCauses, supportNumber}
 use Rattle.support.specs.Support.{supportOutcome, SupportsFor}
-use Rattle.support.specs.SupportLaws.{some-same, some-none, chosen-same}
-use Rattle.support.specs.Inner.{joinedBy, lost, Marked, Compares}
-
--- ---- a relation's number
-or-false : (t : Bool) → (t || false) ≡ t
-or-false true = refl
-or-false false = refl
-
--- with rows enough, a relation has the causes of its pair question
-relation-number : (b : Book) (v : Verdict) (work : ℕ) → firstNumber (relationCauses b v work rowWords) ≡ firstNumber (pairsCauses by-trees b v work)
-unfolding relationCauses pairsCauses
-relation-number b v work =
-    ap (λ (t : Bool). firstNumber (verdictCause v ++ ((short-work, t) ∷ [])))
-    (ap (λ (u : Bool). ltb work (pairsWork (b .n)) || u) (le-ltb rowWords rowWords (omega arith)) ∙ or-false (ltb work (pairsWork (b .n))))
-
-told-refused : (o : Outcome) {a : Counted} {k : ℕ} → a ≡ countOf o → a ≡ Refused k → o ≡ refused k
-unfolding countOf
-told-refused (refused j) {k = k} T e = let z : j ≡ k = cc in ap refused z
-told-refused (paired t ws) T e = absurd (let z : _≡_ {A = ℕ} 0 1 = cc in omega arith)
-told-refused (replied t) T e = absurd (let z : _≡_ {A = ℕ} 0 1 = cc in omega arith)
-
-unless-refused : (q k t : ℕ) (ws : List ℕ) → unless q (paired t ws) ≡ refused k → q ≡ k
-unless-refused zero k t ws e = absurd (let z : _≡_ {A = ℕ} 0 1 = cc in omega arith)
-unless-refused (suc q) k t ws e = cc
-
-unless-some : (q t : ℕ) (ws : List ℕ) {a : Counted} {k : ℕ} → a ≡ countOf (unless q (paired t ws)) → a ≡ Count k → q ≡ 0
-unfolding countOf
-unless-some zero t ws T e = refl
-unless-some (suc q) t ws T e = absurd (let z : _≡_ {A = ℕ} 0 1 = cc in omega arith)
+use Rattle.support.specs.SupportLaws.{chosen-same}
+use Rattle.rowpairs.specs.Evaluation.{relationIn, Relating}
+use Rattle.rowpairs.specs.RelatingLaws.{relating-refused, relating-made}
+use Rattle.rowpairs.specs.declared.Related.{Related}
+use Rattle.support.specs.Inner.{lost, Marked, Compares}
 
 -- ---- the marks of a register's records
-module _ {r : Register} {v : Verdict} {anchors : List ℕ} {work n : ℕ} {before after : List ℕ} (wide : length before ≡ rowWords) {a : Counted}
-    (A : RelatesFor r v work before after a) where
-  pub marks-refused : {k : ℕ} → a ≡ Refused k → (rs : List Bool) → length rs ≡ maxRecords → Marked r v anchors work n (record { records = rs; number = k })
-  unfolding relationAnswer
+module _ {r : Register} {v : Verdict} {anchors : List ℕ} {work n : ℕ} {ws : List ℕ} {q : Related} (A : Relating r v work ws q) where
+  pub marks-refused : {k : ℕ} → q .answer ≡ Refused k → (rs : List Bool) → length rs ≡ maxRecords
+      → Marked r v anchors work n (record { records = rs; number = k })
   marks-refused {k} e rs l =
-      let c = A .contained .caused k e in
+      let c = A .leaves .caused k e in
       record {
         long = l;
         caused = λ _. c;
-        number = λ b R.
-            let o = told-refused _ (A .book b R .answer) e in
-            let q : firstNumber (relationCauses b v work (length before)) ≡ k = unless-refused _ k _ _ o in
-            sym (sym (relation-number b v work) ∙ ap (λ (i : ℕ). firstNumber (relationCauses b v work i)) (sym wide) ∙ q);
+        number = λ b R. relating-refused A b R e;
         records = λ b R f s z. absurd (omega (arith, caused-positive c, z));
       }
 
-  pub marks-made : {k : ℕ} → a ≡ Count k → n ≤ maxRecords → some (leb n) anchors ≡ false
-      → length after ≡ length before → (rs : List Bool) → length rs ≡ maxRecords
-      → ((x : ℕ) → x < n → getD rs x false ≡ reaches (joinedBy after) anchors x) → Marked r v anchors work n (record { records = rs; number = 0 })
-  unfolding relationAnswer reaches joinedBy
-  marks-made {k} e small below m rs l joined = record {
+  pub marks-made : {k : ℕ} → q .answer ≡ Count k → (rs : List Bool) → length rs ≡ maxRecords
+      → ((x : ℕ) → x < n → getD rs x false ≡ reaches (relationIn ws (q .masks) k) anchors x) → Marked r v anchors work n (record { records = rs; number = 0 })
+  marks-made {k} e rs l joined = record {
     long = l;
     caused = λ z. absurd (z refl);
-    number = λ b R.
-        let q : firstNumber (relationCauses b v work (length before)) ≡ 0 = unless-some _ _ _ (A .book b R .answer) e in
-        sym (sym (relation-number b v work) ∙ ap (λ (i : ℕ). firstNumber (relationCauses b v work i)) (sym wide) ∙ q);
-    records = λ b R f s z x h. joined x h ∙ some-same _ _ anchors (λ y i.
-        let w : bitAt after (pairWord x y) ≡ cells (asked b) f x y =
-        ap (λ (ws : List ℕ). bitAt ws (pairWord x y)) (sym (take-all rowWords after (omega (arith, m, wide))))
-        ∙ ap (λ (g : ℕ → ℕ). g (pairWord x y)) (A .book b R .rows f s k e)
-        ∙ flat-at (cells (asked b) f) x y (omega (arith, leb-false n y (some-none (leb n) anchors below y i)))
-        in ap (λ (c : ℕ). eqb c 1) w);
+    number = λ b R. relating-made A b R e;
+    records = λ b R f s z x h. joined x h ∙ ap (λ (g : Cells). reaches g anchors x) (A .leaves .book b R .value f s k e);
   }
 
 -- the graph of a book without the core's links

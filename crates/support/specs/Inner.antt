@@ -1,5 +1,4 @@
 -- What the inner functions promise.
---   joinedBy ws x y   the bit of the pair (x, y) in rows of bits
 --   lost before after core x
 --                     whether x is not the core, and is marked before and not after
 --   Marked r v anchors work n m
@@ -16,8 +15,6 @@ use lib.ListN.{length, getD}
 use lib.Dec.{ltb, eqb}
 use Rattle.book.specs.Causes.{Caused, firstNumber, maxRecords}
 use Rattle.book.specs.Book.{Book}
-use Rattle.k2.specs.Bits.{bitAt}
-use Rattle.k2.specs.PairSets.{Cells, pairWord}
 use Rattle.paths.specs.Expressions.{Expr}
 use Rattle.paths.specs.Grammar.{Verdict, accepted}
 use Rattle.paths.specs.Chains.{asked}
@@ -29,9 +26,6 @@ use Rattle.register.specs.Representation.{Represents}
 use Rattle.register.specs.declared.Register.{Register}
 use Rattle.support.specs.Support.{reaches, supportWork, supportOutcome}
 use Rattle.support.specs.declared.Marks.{Marks}
-
-unfoldable pub joinedBy : List ℕ → Cells
-joinedBy ws x y = bitAt ws (pairWord x y)
 
 unfoldable pub lost : List Bool → List Bool → ℕ → ℕ → Bool
 lost before after core x = not (eqb x core) && (getD before x false && not (getD after x false))

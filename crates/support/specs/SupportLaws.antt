@@ -1,6 +1,5 @@
 -- Laws of sole support: the computed answer is what the definition says, and nothing else is; the order of its causes.
 --   some-in, in-some      some member of a list passes a test exactly if one does
---   some-same, some-none  tests that agree on every member; no member passes
 --   in-chosen, chosen-in, chosen-rises, chosen-same
 --                         the numbers below n that pass a test, ascending; tests that agree below n choose alike
 --   orderly-rises, rises-orderly
@@ -54,20 +53,6 @@ pub in-some : (t : ℕ → Bool) {x : ℕ} (l : List ℕ) → In x l → t x ≡
 unfolding some
 in-some t (x ∷ l) here e = rw e
 in-some t (y ∷ l) (there h) e = rw (in-some t l h e) (or-true (t y))
-
--- tests that agree on every member
-pub some-same : (t u : ℕ → Bool) (l : List ℕ) → ((x : ℕ) → In x l → t x ≡ u x) → some t l ≡ some u l
-unfolding some
-some-same t u [] e = refl
-some-same t u (x ∷ l) e = ap₂ (λ (p q : Bool). p || q) (e x here) (some-same t u l (λ y h. e y (there h)))
-
--- no member passes
-pub some-none : (t : ℕ → Bool) (l : List ℕ) → some t l ≡ false → (x : ℕ) → In x l → t x ≡ false
-some-none t l e x h = go (t x) refl
-  where
-    go : (u : Bool) → t x ≡ u → u ≡ false
-    go true q = absurd (true≢false (sym (in-some t l h q) ∙ e))
-    go false q = refl
 
 -- ---- the numbers that pass a test
 pub in-chosen : (t : ℕ → Bool) (n : ℕ) {x : ℕ} → In x (chosen t n) → (x < n) × (t x ≡ true)

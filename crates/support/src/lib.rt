@@ -1,23 +1,20 @@
-// Sole support: which records would lose every chain to the anchors if one core did. A product above the engine: it calls the
-// engine alone, whose question it asks of the register and of what is left of it without the core's links, and its proofs rest on what is promised there.
+// Sole support: which records would lose every chain to the anchors if one core did. A product above the engine: it
+// calls the engine, and the relation behind its questions, which it asks of the register and of what is left of it without the core's links; its proofs rest
+// on what is promised there.
 ghost use mathlib.Core.Path.{_≡_};
 ghost use mathlib.Core.Bool.{true, false, not, _&&_};
 ghost use Prim.Native.Nat.{ℕ, _<_, _≤_, min};
-ghost use lib.Dec.{leb, eqb};
+ghost use lib.Dec.{leb};
 ghost use lib.ListN.{length, take, getD};
 ghost use Rattle.book.specs.Causes.{maxRecords};
 ghost use Rattle.paths.specs.Questions.{chainWork, over};
 ghost use Rattle.paths.specs.Verdicts.{verdict};
 ghost use Rattle.answers.specs.Answers.{Whole};
+ghost use Rattle.rowpairs.specs.Evaluation.{relationIn};
 ghost use Rattle.support.specs.Support.{some, chosen, reaches, orderly, Supports};
-ghost use Rattle.support.specs.Inner.{joinedBy, lost as Lost, Marked, Compares};
+ghost use Rattle.support.specs.Inner.{lost as Lost, Marked, Compares};
 use answers::Counted;
 use register::Register;
-
-// The rows of a relation: a bit for each pair, in words of 64.
-const WORD_BITS: usize = 64;
-
-const ROW_WORDS: usize = book::MAX_RECORDS * book::MAX_RECORDS / WORD_BITS;
 
 // The words of work for each record beside those of a pair question.
 const RECORD_WORDS: usize = 64;
@@ -29,7 +26,7 @@ struct Marks {
 }
 
 // The records that fall, ascending, as the first count of words.
-struct Found {
+struct FallenList {
     words: [u32; book::MAX_RECORDS],
     count: usize,
 }
@@ -65,27 +62,14 @@ fn ascending(records: &[u16]) -> bool
     true
 }
 
-// Whether the rows of a relation have a pair.
-fn joined(rows: &[u64], from: usize, to: usize) -> bool
-    requires { ⌜ (from < maxRecords) × (to < 65536) ⌝ }
-    ensures { λ r. ⌜ r ≡ eqb (joinedBy (now (rows .entry)) from to) 1 ⌝ }
-{
-    let p = from * book::MAX_RECORDS + to;
-    let q = p / WORD_BITS;
-    if rows.len() <= q {
-        return false;
-    }
-    (rows[q] >> (p % WORD_BITS)) % 2 == 1
-}
-
-// Whether the rows of a relation join a record to some anchor.
-fn joined_to_some(rows: &[u64], record: usize, anchors: &[u16]) -> bool
-    requires { ⌜ «record» < maxRecords ⌝ }
-    ensures { λ r. ⌜ r ≡ reaches (joinedBy (now (rows .entry))) (now (anchors .entry)) «record» ⌝ }
+// Whether a relation of m records joins a record to some anchor.
+fn joined_to_some(cells: &[u64], masks: &[u16], m: usize, record: usize, anchors: &[u16]) -> bool
+    requires { ⌜ m ≤ maxRecords ⌝ }
+    ensures { λ r. ⌜ r ≡ reaches (relationIn (now (cells .entry)) (now (masks .entry)) m) (now (anchors .entry)) «record» ⌝ }
 {
     let mut i = 0;
     while i < anchors.len() {
-        if joined(rows, record, anchors[i] as usize) {
+        if rowpairs::joins(cells, masks, m, record, anchors[i] as usize) {
             return true;
         }
         i += 1;
@@ -93,15 +77,22 @@ fn joined_to_some(rows: &[u64], record: usize, anchors: &[u16]) -> bool
     false
 }
 
-// Of each record below n, whether the rows of a relation join it to some anchor.
-fn joined_records(rows: &[u64], anchors: &[u16], n: usize) -> [bool; book::MAX_RECORDS]
-    requires { ⌜ n ≤ maxRecords ⌝ }
-    ensures { λ r. ⌜ (length r ≡ maxRecords) × ((x : ℕ) → x < n → getD r x false ≡ reaches (joinedBy (now (rows .entry))) (now (anchors .entry)) x) ⌝ }
+// Of each record below n, whether a relation of m records joins it to some anchor.
+fn joined_records(
+    cells: &[u64],
+    masks: &[u16],
+    m: usize,
+    anchors: &[u16],
+    n: usize,
+) -> [bool; book::MAX_RECORDS]
+    requires { ⌜ (m ≤ maxRecords) × (n ≤ maxRecords) ⌝ }
+    ensures { λ r. ⌜ (length r ≡ maxRecords)
+        × ((x : ℕ) → x < n → getD r x false ≡ reaches (relationIn (now (cells .entry)) (now (masks .entry)) m) (now (anchors .entry)) x) ⌝ }
 {
     let mut records: [bool; book::MAX_RECORDS] = [false; book::MAX_RECORDS];
     let mut x = 0;
     while x < n {
-        records[x] = joined_to_some(rows, x, anchors);
+        records[x] = joined_to_some(cells, masks, m, x, anchors);
         x += 1;
     }
     records
@@ -115,18 +106,19 @@ fn mark_records(
     work: &mut [u64],
     n: usize,
 ) -> Marks
-    requires { ⌜ (n ≤ maxRecords) × (some (leb n) (now anchors) ≡ false) ⌝ }
+    requires { ⌜ n ≤ maxRecords ⌝ }
     ensures { λ r. ⌜ Marked register (verdict (now (text .entry))) (now (anchors .entry)) (length (now (work .entry))) n r ⌝ }
 {
-    let mut rows: [u64; ROW_WORDS] = [0; ROW_WORDS];
-    let answer = engine::relation(register, text, work, &mut rows);
+    let related = rowpairs::relate(register, text, work);
+    let answer = related.answer;
+    let masks = related.masks;
     match answer {
         Counted::Refused(number) => Marks {
             records: [false; book::MAX_RECORDS],
             number,
         },
-        Counted::Count(_) => Marks {
-            records: joined_records(&rows, anchors, n),
+        Counted::Count(m) => Marks {
+            records: joined_records(work, &masks, m, anchors, n),
             number: 0,
         },
     }
@@ -151,7 +143,7 @@ fn fallen(
     after: [bool; book::MAX_RECORDS],
     core: usize,
     n: usize,
-) -> Found
+) -> FallenList
     requires { ⌜ (n ≤ maxRecords) × (length before ≡ maxRecords) × (length after ≡ maxRecords) ⌝ }
     ensures { λ r. ⌜ (r .count ≤ maxRecords) × (length (r .words) ≡ maxRecords) × (take (r .count) (r .words) ≡ chosen (Lost before after core) n) ⌝ }
 {
@@ -167,7 +159,7 @@ fn fallen(
         }
         x += 1;
     }
-    Found { words, count }
+    FallenList { words, count }
 }
 
 // The first words of an array written over the front of a list.
@@ -183,7 +175,7 @@ fn write(words: &[u32], list: &mut [u32])
 }
 
 // The records that fall handed over, if the list takes them all.
-fn hand_over(
+fn list_fallen(
     before: [bool; book::MAX_RECORDS],
     after: [bool; book::MAX_RECORDS],
     core: usize,
@@ -228,7 +220,7 @@ fn compared(
     }
     let had = before.records;
     let has = after.records;
-    hand_over(had, has, core as usize, n, list)
+    list_fallen(had, has, core as usize, n, list)
 }
 
 // Where the part of work begins that is lent on: past 64 words for each record, or at its end if there are not so many.

@@ -24,10 +24,9 @@ use Rattle.automaton.specs.Automata.{On, Fragment, either, followed}
 use Rattle.automaton.specs.SetLaws.{on-max}
 use Rattle.automaton.specs.Traces.{Between, Within}
 use Rattle.automaton.specs.Masks.{letterNumber}
-use Rattle.tables.specs.declared.Build.{Build}
 use Rattle.tables.specs.Rows.{Joined}
-use Rattle.tables.specs.Builds.{Part, parts, Fit, Item, Holds}
-use Rattle.tables.proofs.PartLaws.{zero-of, fit-either, fit-followed, Same, items-keep, Top, top-of, put-top, joins, joins-off}
+use Rattle.tables.specs.Builds.{Build, Part, parts, Fit, Item, Holds}
+use Rattle.tables.proofs.PartLaws.{zero-of, fit-either, fit-followed, Same, items-keep, Top, top-of, put-top, joins-off}
 
 or-bit : (a b : ℕ) → a < 2 → b < 2 → bitOr a b ≡ max a b
 or-bit a b h g =
@@ -215,8 +214,8 @@ module _ {b : Build} {m : ℕ} {x y : Part} {st : List Part} (H : Holds b m (y �
         prd p q (left g) = T₁ .pred p q g ∙ (let z = no-B q p g in omega arith)
         prd p q (right g) = T₂ .pred p q g ∙ (let z = no-A q p g in omega arith)
 
-    pub holds-sequence : (u v : ℕ) → Joined (b .follow) (digit (getD (b .last) i 0)) (getD (b .first) j 0) 64 (r .follow)
-        → Joined (b .pred) (digit (getD (b .first) j 0)) (getD (b .last) i 0) 64 (r .pred)
+    pub holds-sequence : (u v : ℕ) → Joined (b .follow) (digit (getD (b .last) i 0)) (getD (b .first) j 0) (r .follow)
+        → Joined (b .pred) (digit (getD (b .first) j 0)) (getD (b .last) i 0) (r .pred)
         → (getD (b .nullable) i 0 ≡ 0 → u ≡ 0) × (0 < getD (b .nullable) i 0 → u ≡ getD (b .first) j 0)
         → (getD (b .nullable) j 0 ≡ 0 → v ≡ 0) × (0 < getD (b .nullable) j 0 → v ≡ getD (b .last) i 0)
         → f ≡ bitOr (getD (b .first) i 0) u → l ≡ bitOr (getD (b .last) j 0) v
@@ -227,8 +226,8 @@ module _ {b : Build} {m : ℕ} {x y : Part} {st : List Part} (H : Holds b m (y �
         (n-is ∙ rw (i-is, j-is, T₁ .nullable, T₂ .nullable) (and-bit (A .nullable) (B .nullable) (t₁ .fit .nullable-lt o₁) (t₂ .fit .nullable-lt mid)))
         (λ q. rw (f-is, i-is, digit-or) (ap₂ max (T₁ .first q) (u-is q)))
         (λ q. rw (l-is, j-is, digit-or) (ap₂ max (T₂ .last q) (v-is q)))
-        (λ p q h. joins J p q (omega (arith, ends₂, H .few)) ∙ fol p q (side p h))
-        (λ p q h. joins K q p (omega (arith, ends₂, H .few)) ∙ prd p q (side q h))
+        (λ p q h. J .at p q ∙ fol p q (side p h))
+        (λ p q h. K .at q p ∙ prd p q (side q h))
         (λ p q h. joins-off J p q (la p ∙ zero-of _ (λ o. h (let z = U .last p o in (omega arith, omega arith)))))
         (λ p q h. joins-off K q p (fi q ∙ zero-of _ (λ o. h (let z = W .first q o in (omega arith, omega arith)))))
       where

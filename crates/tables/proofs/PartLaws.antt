@@ -6,13 +6,12 @@
 --   items-keep          so the parts that lie there wait still
 --   Top b m k x st      the latest that waits, and what waits below it
 --   top-of, put-top     it is taken off, and put on
---   joins, joins-off    tables with edges added, and their rows that stay
+--   joins-off           the rows to which no edge is added stay
 -- Assumes nothing.
 use mathlib.Core.Path.{_≡_, refl, sym, ap, _∙_, subst}
 use mathlib.Core.List.{List, _∷_}
-use Prim.Native.Nat.{ℕ, zero, suc, _+_, _<_, min, max}
+use Prim.Native.Nat.{ℕ, zero, suc, _+_, _<_}
 use native.Mathlib.Omega.{arith}
-use native.Mathlib.Decide.{decLt}
 use lib.ListN.{getD}
 use Rattle.k2.specs.Bits.{digit}
 use Rattle.reader.specs.Letters.{lettersIn}
@@ -20,9 +19,8 @@ use Rattle.automaton.specs.Automata.{On, single, reversed, repeated, optional, 
 use Rattle.automaton.specs.Traces.{Between, Within}
 use Rattle.automaton.specs.TraceLaws.{within-single, within-repeated, within-optional, within-reversed, within-either, within-followed}
 use Rattle.automaton.specs.Masks.{letterNumber}
-use Rattle.tables.specs.declared.Build.{Build}
 use Rattle.tables.specs.Rows.{Joined}
-use Rattle.tables.specs.Builds.{Part, parts, Fit, Item, Items, none, item}
+use Rattle.tables.specs.Builds.{Build, Part, parts, Fit, Item, Items, none, item}
 
 pub zero-of : (d : ℕ) → (On d → ⊥) → d ≡ 0
 zero-of zero n = refl
@@ -114,13 +112,6 @@ pub put-top : {b : Build} {o j : ℕ} {st : List Part} (x : Part) (m k : ℕ) �
 put-top {b} {o} {j} {st} x m k e f I F T = subst (λ (i : ℕ). Items b m i (x ∷ st)) (sym e) (subst (λ (i : ℕ). Items b i (suc j) (x ∷ st)) (sym f) (item I F T))
 
 -- ---- tables with edges added
-module _ {rows : List ℕ} {from : ℕ → ℕ} {to : ℕ} {r : List ℕ} (J : Joined rows from to 64 r) where
-  pub joins : (p q : ℕ) → p < 64 → digit (getD r p 0) q ≡ max (digit (getD rows p 0) q) (min (from p) (digit to q))
-  joins p q h = J .below p q h
-
-  pub joins-off : (p q : ℕ) → from p ≡ 0 → digit (getD r p 0) q ≡ digit (getD rows p 0) q
-  joins-off p q e = go (decLt p 64)
-    where
-      go : Dec (p < 64) → digit (getD r p 0) q ≡ digit (getD rows p 0) q
-      go (yes h) = J .below p q h ∙ (omega arith)
-      go (no h) = J .above p q (omega arith)
+pub joins-off : {rows : List ℕ} {from : ℕ → ℕ} {to : ℕ} {r : List ℕ} → Joined rows from to r → (p q : ℕ) → from p ≡ 0
+    → digit (getD r p 0) q ≡ digit (getD rows p 0) q
+joins-off J p q e = J .at p q ∙ (omega arith)

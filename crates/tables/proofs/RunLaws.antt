@@ -6,22 +6,22 @@
 --   Opened               of a number of the code: its operands, what is left of the run, and the symbols left
 --   room-one, after-one, room-two, after-two, room-symbol, after-symbol
 --                        for an operator on one, on two, and a symbol: there is room, and the tables after it hold what is left
---   holds-none, next-none, zeros-at
+--   holds-none, next-none
 --                        at the start: empty tables hold nothing, and the whole code is left
 --   at-end               at the end one part waits
 --   alone-top            then one place of the stack is used
---   masked, masked-part, masked-inverse
+--   masked, masked-part, masked-sense
 --                        with the start added, the tables are those of the automaton, of the expression or of its inverse
 -- Assumes nothing.
 use mathlib.Core.Path.{_≡_, refl, sym, ap, ap₂, _∙_, subst}
 use mathlib.Core.List.{List, [], _∷_, _++_}
-use mathlib.Core.Bool.{Bool, false}
+use mathlib.Core.Bool.{Bool, true, false}
 use Prim.Native.Nat.{ℕ, zero, suc, _+_, _≤_, _<_, min, max}
 use native.Mathlib.Omega.{arith}
 use native.Mathlib.Decide.{decLt}
 use lib.Bits.{bitOr}
 use lib.Dec.{leb}
-use lib.ListN.{length, getD, set, replicate}
+use lib.ListN.{length, getD, set}
 use lib.Seq.{getD-set-same, getD-set-other}
 use borrow.Author.Tests.{ne-eqb, le-leb}
 use Rattle.book.specs.Basics.{bit}
@@ -44,10 +44,9 @@ use Rattle.reader.specs.CodeLaws.{letters-number, run-code, runs-code}
 use Rattle.automaton.specs.Automata.{is, Fragment, single, reversed, repeated, optional, either, followed, fragment, started, automaton}
 use Rattle.automaton.specs.Traces.{Between, Within}
 use Rattle.automaton.specs.Masks.{letterNumber, Masked}
-use Rattle.tables.specs.declared.Build.{Build}
 use Rattle.tables.specs.Rows.{Joined}
-use Rattle.tables.specs.Builds.{Part, changed, combined, parts, Item as Place, Items, none, item, Holds, symbols, places, Next, Alone}
-use Rattle.tables.proofs.PartLaws.{zero-of, Top, top-of, joins}
+use Rattle.tables.specs.Builds.{Build, Part, changed, combined, parts, Item as Place, Items, none, item, Holds, symbols, places, Next, Alone, inSense}
+use Rattle.tables.proofs.PartLaws.{zero-of, Top, top-of}
 
 -- ---- how many wait
 items-length : {b : Build} {m k : ℕ} {st : List Part} → Items b m k st → k ≡ length st
@@ -210,11 +209,6 @@ next-none {e = e} L q H =
       holds = H;
     })
 
-pub zeros-at : (n i : ℕ) → getD {A = ℕ} (replicate n 0) i 0 ≡ 0
-zeros-at zero i = refl
-zeros-at (suc n) zero = refl
-zeros-at (suc n) (suc i) = zeros-at n i
-
 -- ---- an expression's part is its letters and its fragment
 abbrev part-of : Expr → Part
 part-of e = record { letters = letters e; fragment = fragment e }
@@ -291,9 +285,6 @@ module _ {b : Build} {m : ℕ} {x : Part} (H : Holds b m (x ∷ [])) where
   no-before : (p q : ℕ) → (Between 0 (x .letters) q → ⊥) → A .follow p q ≡ 0
   no-before p q n = zero-of _ (λ o. n (let k = W .to p q o in (omega arith, omega arith)))
 
-  no-first : (q : ℕ) → (Between 0 (x .letters) q → ⊥) → A .first q ≡ 0
-  no-first q n = zero-of _ (λ o. n (let k = W .first q o in (omega arith, omega arith)))
-
   before-is : (p q : ℕ) → digit (getD (b .pred) q 0) p ≡ A .follow p q
   before-is p q = go (inside q)
     where
@@ -308,7 +299,7 @@ module _ {b : Build} {m : ℕ} {x : Part} (H : Holds b m (x ∷ [])) where
       go (yes h) = T .follow p q h
       go (no h) = H .blank .follow p q (out p h) ∙ sym (no-follow p q h)
 
-  pub masked : {pred : List ℕ} → length (b .follow) ≡ 64 → Joined (b .pred) (digit (getD (b .first) 0 0)) 1 64 pred
+  pub masked : {pred : List ℕ} → length (b .follow) ≡ 64 → Joined (b .pred) (digit (getD (b .first) 0 0)) 1 pred
       → Masked (set (b .follow) 0 (getD (b .first) 0 0)) pred (b .enter) (bitOr (getD (b .last) 0 0) (getD (b .nullable) 0 0)) (started A)
   unfolding started
   masked {pred} long J = record { follow = fo; before = be; enters = en; final = fi }
@@ -322,11 +313,7 @@ module _ {b : Build} {m : ℕ} {x : Part} (H : Holds b m (x ∷ [])) where
           ∙ rw (ne-eqb (suc p) 0 (λ h. omega arith)) (omega arith)
 
       be : (p q : ℕ) → digit (getD pred q 0) p ≡ max (A .follow p q) (min (is 0 p) (A .first q))
-      be p q = go (decLt q 64)
-        where
-          go : Dec (q < 64) → digit (getD pred q 0) p ≡ max (A .follow p q) (min (is 0 p) (A .first q))
-          go (yes h) = joins J q p h ∙ (let x = before-is p q in let y = T .first q in let o = digit-pow 0 p in omega arith)
-          go (no h) = J .above q p (omega arith) ∙ before-is p q ∙ (let f = no-first q (λ k. let l = H .few in omega (arith, em)) in omega arith)
+      be p q = J .at q p ∙ (let x = before-is p q in let y = T .first q in let o = digit-pow 0 p in omega arith)
 
       fi : (q : ℕ) → digit (bitOr (getD (b .last) 0 0) (getD (b .nullable) 0 0)) q ≡ max (A .last q) (min (is 0 q) (A .nullable))
       fi q = digit-or (getD (b .last) 0 0) (getD (b .nullable) 0 0) q ∙ ap₂ max (T .last q) (ap (λ (k : ℕ). digit k q) (T .nullable) ∙ nl q)
@@ -343,11 +330,12 @@ module _ {b : Build} {m : ℕ} {x : Part} (H : Holds b m (x ∷ [])) where
           go (no h) =
               H .blank .enter (letterNumber a) q (out q h) ∙ sym (zero-of (A .enters q a) (λ o. h (let k = W .enters q a o in (omega arith, omega arith))))
 
-pub masked-part : {fs ps es : List ℕ} {f : ℕ} {s : List ℕ} {e : Expr} → Is alternatives s e
+masked-part : {fs ps es : List ℕ} {f : ℕ} {s : List ℕ} {e : Expr} → Is alternatives s e
     → Masked fs ps es f (started (value parts e .fragment 0)) → Masked fs ps es f (automaton e)
 masked-part {fs} {ps} {es} {f} d T = subst (λ (x : Part). Masked fs ps es f (started (x .fragment 0))) (value-parts d) T
 
-pub masked-inverse : {fs ps es : List ℕ} {f : ℕ} {s : List ℕ} {e : Expr} → Is alternatives s e
-    → Masked fs ps es f (started (parts .inverted (value parts e) .fragment 0)) → Masked fs ps es f (automaton (inverse e))
-unfolding parts fragment
-masked-inverse {fs} {ps} {es} {f} d T = subst (λ (x : Part). Masked fs ps es f (started (reversed (x .fragment 0)))) (value-parts d) T
+pub masked-sense : (against : Bool) {fs ps es : List ℕ} {f : ℕ} {s : List ℕ} {e : Expr} → Is alternatives s e
+    → Masked fs ps es f (started (value parts (inSense against e) .fragment 0)) → Masked fs ps es f (automaton (inSense against e))
+unfolding value parts fragment
+masked-sense false d T = masked-part d T
+masked-sense true {fs} {ps} {es} {f} d T = subst (λ (x : Part). Masked fs ps es f (started (reversed (x .fragment 0)))) (value-parts d) T

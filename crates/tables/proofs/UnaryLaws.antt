@@ -18,17 +18,16 @@ use Rattle.paths.specs.Words.{inverseLetter}
 use Rattle.automaton.specs.Automata.{On, reversed, repeated, optional}
 use Rattle.automaton.specs.Traces.{Between, Within}
 use Rattle.automaton.specs.Masks.{letterNumber}
-use Rattle.tables.specs.declared.Build.{Build}
 use Rattle.tables.specs.Rows.{Joined, Mixed, inverseNumber, Turned}
-use Rattle.tables.specs.Builds.{Part, parts, Item, Holds}
-use Rattle.tables.proofs.PartLaws.{zero-of, fit-repeated, fit-optional, fit-reversed, Same, items-keep, Top, top-of, put-top, joins, joins-off}
+use Rattle.tables.specs.Builds.{Build, Part, parts, Item, Holds}
+use Rattle.tables.proofs.PartLaws.{zero-of, fit-repeated, fit-optional, fit-reversed, Same, items-keep, Top, top-of, put-top, joins-off}
 
 -- ---- one or more
 module _ {b r : Build} {m : ℕ} {x : Part} {st : List Part} (H : Holds b m (x ∷ st)) where
   pub holds-plus : r .top ≡ b .top → r .used ≡ b .used → r .first ≡ b .first
       → r .last ≡ b .last → r .own ≡ b .own → r .nullable ≡ b .nullable → r .enter ≡ b .enter
-      → Joined (b .follow) (digit (getD (b .last) (b .top - 1) 0)) (getD (b .first) (b .top - 1) 0) 64 (r .follow)
-      → Joined (b .pred) (digit (getD (b .first) (b .top - 1) 0)) (getD (b .last) (b .top - 1) 0) 64 (r .pred) → Holds r m (parts .repeated x ∷ st)
+      → Joined (b .follow) (digit (getD (b .last) (b .top - 1) 0)) (getD (b .first) (b .top - 1) 0) (r .follow)
+      → Joined (b .pred) (digit (getD (b .first) (b .top - 1) 0)) (getD (b .last) (b .top - 1) 0) (r .pred) → Holds r m (parts .repeated x ∷ st)
   unfolding parts repeated
   holds-plus et em ef el eo en ee J K =
       record {
@@ -83,9 +82,9 @@ module _ {b r : Build} {m : ℕ} {x : Part} {st : List Part} (H : Holds b m (x �
         last = λ q. rw el (t .this .last q);
         own-on = λ q h. t .this .own-on q (rw eo at h);
         own-all = λ q h. rw eo (t .this .own-all q h);
-        follow = λ p q h. joins J p q (omega (arith, t .ends, H .few)) ∙ ap₂ max (t .this .follow p q h) (ap₂ min (la p) (fi q));
+        follow = λ p q h. J .at p q ∙ ap₂ max (t .this .follow p q h) (ap₂ min (la p) (fi q));
         pred =
-            λ p q h. joins K q p (omega (arith, t .ends, H .few))
+            λ p q h. K .at q p
             ∙ ap₂ max (t .this .pred p q h) (ap₂ min (fi q) (la p)
             ∙ (let z : min (x .fragment (t .o) .first q) (x .fragment (t .o) .last p) ≡ min (x .fragment (t .o) .last p) (x .fragment (t .o) .first q) =
             omega arith in z));
@@ -152,8 +151,8 @@ module _ {b r : Build} {m : ℕ} {x : Part} {st : List Part} (H : Holds b m (x �
   pub holds-inverse : b .top ≤ length (b .first) → b .top ≤ length (b .last) → length (b .enter) ≡ 64 → length (r .enter) ≡ 64
       → r .top ≡ b .top → r .used ≡ b .used → r .first ≡ set (b .first) (b .top - 1) (getD (b .last) (b .top - 1) 0)
       → r .last ≡ set (b .last) (b .top - 1) (getD (b .first) (b .top - 1) 0) → r .own ≡ b .own → r .nullable ≡ b .nullable
-      → Mixed (b .follow) (b .pred) (getD (b .own) (b .top - 1) 0) 64 (r .follow)
-      → Mixed (b .pred) (b .follow) (getD (b .own) (b .top - 1) 0) 64 (r .pred) → Turned (b .enter) (getD (b .own) (b .top - 1) 0) 64 (r .enter)
+      → Mixed (b .follow) (b .pred) (digit (getD (b .own) (b .top - 1) 0)) (r .follow)
+      → Mixed (b .pred) (b .follow) (digit (getD (b .own) (b .top - 1) 0)) (r .pred) → Turned (b .enter) (getD (b .own) (b .top - 1) 0) 64 (r .enter)
       → Holds r m (parts .inverted x ∷ st)
   unfolding parts reversed
   holds-inverse lf ll le lr et em ef el eo en F P E =
@@ -184,17 +183,13 @@ module _ {b r : Build} {m : ℕ} {x : Part} {st : List Part} (H : Holds b m (x �
       not-mine : (q : ℕ) → (Between (t .o) (t .o + x .letters) q → ⊥) → digit (getD (b .own) (b .top - 1) 0) q ≡ 0
       not-mine q n = rw j (zero-of _ (λ o. n (t .this .own-on q o)))
 
-      off-row : {u v w : List ℕ} → Mixed u v (getD (b .own) (b .top - 1) 0) 64 w → (p q : ℕ)
+      off-row : {u v w : List ℕ} → Mixed u v (digit (getD (b .own) (b .top - 1) 0)) w → (p q : ℕ)
           → (Between (t .o) (t .o + x .letters) p → ⊥) → digit (getD w p 0) q ≡ digit (getD u p 0) q
-      off-row {u} {v} {w} M p q n = ap (λ (y : ℕ). digit y q) (go (decLt p 64))
-        where
-          go : Dec (p < 64) → getD w p 0 ≡ getD u p 0
-          go (yes h) = M .outside p h (not-mine p n)
-          go (no h) = M .above p (omega arith)
+      off-row M p q n = ap (λ (y : ℕ). digit y q) (M .outside p (not-mine p n))
 
-      on-row : {u v w : List ℕ} → Mixed u v (getD (b .own) (b .top - 1) 0) 64 w → (p q : ℕ)
+      on-row : {u v w : List ℕ} → Mixed u v (digit (getD (b .own) (b .top - 1) 0)) w → (p q : ℕ)
           → Between (t .o) (t .o + x .letters) p → digit (getD w p 0) q ≡ digit (getD v p 0) q
-      on-row M p q h = ap (λ (y : ℕ). digit y q) (M .inside p (omega (arith, t .ends, H .few)) (mine p h))
+      on-row M p q h = ap (λ (y : ℕ). digit y q) (M .inside p (mine p h))
 
       off-enter : (c q : ℕ) → q < 64 → (Between (t .o) (t .o + x .letters) q → ⊥) → digit (getD (r .enter) c 0) q ≡ digit (getD (b .enter) c 0) q
       off-enter c q hq n = go (decLt c 64)

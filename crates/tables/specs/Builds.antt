@@ -1,4 +1,6 @@
 -- The tables under construction: which parts of the expression wait on the stack, and that each one's masks are those of its fragment.
+--   Build, build     the tables and the stack together: of each position those that may follow it and those that it may follow, of each letter those
+--                    that it may enter, then what waits
 --   Part             a part of an expression: how many letters it has, and its fragment after any number of letters
 --   parts            the algebra of parts
 --   Fit x            the positions of x's fragment are those of its letters
@@ -29,7 +31,31 @@ use Rattle.reader.specs.Running.{Runs}
 use Rattle.automaton.specs.Automata.{On, Fragment, single, reversed, repeated, optional, either, followed}
 use Rattle.automaton.specs.Traces.{Between, Within}
 use Rattle.automaton.specs.Masks.{letterNumber}
-use Rattle.tables.specs.declared.Build.{Build}
+use Rattle.tables.specs.declared.Stack.{Stack}
+
+pub record Build : Type 0 where
+  pub follow : List ℕ
+  pub pred : List ℕ
+  pub enter : List ℕ
+  pub first : List ℕ
+  pub last : List ℕ
+  pub own : List ℕ
+  pub nullable : List ℕ
+  pub top : ℕ
+  pub used : ℕ
+
+abbrev pub build : List ℕ → List ℕ → List ℕ → Stack → Build
+build fs ps es s = record {
+  follow = fs;
+  pred = ps;
+  enter = es;
+  first = s .first;
+  last = s .last;
+  own = s .own;
+  nullable = s .nullable;
+  top = s .top;
+  used = s .used;
+}
 
 pub record Part : Type 0 where
   pub letters : ℕ

@@ -2,73 +2,76 @@
 ghost use mathlib.Core.Path.{_≡_};
 ghost use mathlib.Core.List.{List, _∷_};
 ghost use Prim.Native.Nat.{ℕ, _+_, _<_, _≤_};
+ghost use lib.ListN.{length, getD};
 ghost use Rattle.book.specs.Causes.{maxLetters};
 ghost use Rattle.k2.specs.Bits.{digit};
 ghost use Rattle.paths.specs.Expressions.{Expr};
 ghost use Rattle.paths.specs.Verdicts.{InLimits};
 ghost use Rattle.reader.specs.Code.{code, value};
-ghost use Rattle.automaton.specs.Automata.{automaton, started as Automata·started};
+ghost use Rattle.automaton.specs.Automata.{automaton};
 ghost use Rattle.automaton.specs.Masks.{Masked};
-ghost use Rattle.tables.specs.Rows.{Joined, sideOf, letterDigit, Mixed, Turned};
-ghost use Rattle.tables.specs.Builds.{Part, parts, Holds, Next, Alone, inSense};
+ghost use Rattle.tables.specs.Rows.{Joined, sensed, Mixed, Turned};
+ghost use Rattle.tables.specs.Builds.{Part, parts, places, build, Holds, Next, Alone, inSense};
 use reader::Item;
 
-// The tables so far: of each position those that may follow it and those that it may follow, of each letter those that it may enter; then the
-// stack, for each expression that waits its first, last and own positions and whether it has the empty word; how many wait, and the positions used.
-pub struct Build {
-    pub follow: [u64; 64],
-    pub pred: [u64; 64],
-    pub enter: [u64; 64],
-    pub first: [u64; 19],
-    pub last: [u64; 19],
-    pub own: [u64; 19],
-    pub nullable: [u64; 19],
+// A state's bit is in a word: the start, and as many positions as an expression may have letters.
+const STATES: usize = book::MAX_LETTERS + 1;
+
+// The most expressions that wait while a code is run.
+const PLACES: usize = 19;
+
+// The expressions that wait: of each its first, last and own positions and whether it has the empty word; how many they are, and the positions used.
+pub struct Stack {
+    pub first: [u64; PLACES],
+    pub last: [u64; PLACES],
+    pub own: [u64; PLACES],
+    pub nullable: [u64; PLACES],
     pub top: usize,
     pub used: usize,
 }
 
 // `to` joined to the rows of the states in `from`.
-fn joined(rows: [u64; 64], from: u64, to: u64) -> [u64; 64]
-    ensures { λ r. ⌜ Joined rows (digit from) to 64 r ⌝ }
+fn with_edges(rows: &mut [u64], from: u64, to: u64)
+    requires { ⌜ length (now rows) ≡ 64 ⌝ }
+    ensures { λ _. ⌜ Joined (now (rows .entry)) (digit from) to (now (rows .exit)) ⌝ }
 {
-    let mut r = rows;
-    let mut p = 0;
-    while p < 64 {
-        if (from >> p) % 2 == 1 {
-            r[p] = r[p] | to;
-        }
-        p += 1;
+    let mut left = from;
+    while left != 0 {
+        let p = u64::trailing_zeros(left) as usize;
+        rows[p] = rows[p] | to;
+        left = left & (left - 1);
     }
-    r
 }
 
-// The rows of b at the states in own, those of a elsewhere.
-fn mixed(a: [u64; 64], b: [u64; 64], own: u64) -> [u64; 64]
-    ensures { λ r. ⌜ Mixed a b own 64 r ⌝ }
+// The rows of two tables exchanged at the states in own.
+fn exchange(a: &mut [u64], b: &mut [u64], own: u64)
+    requires { ⌜ (length (now a) ≡ 64) × (length (now b) ≡ 64) ⌝ }
+    ensures { λ _. ⌜ Mixed (now (a .entry)) (now (b .entry)) (digit own) (now (a .exit))
+        × Mixed (now (b .entry)) (now (a .entry)) (digit own) (now (b .exit)) ⌝ }
 {
-    let mut r = a;
-    let mut p = 0;
-    while p < 64 {
-        if (own >> p) % 2 == 1 {
-            r[p] = b[p];
-        }
-        p += 1;
+    let mut left = own;
+    while left != 0 {
+        let p = u64::trailing_zeros(left) as usize;
+        let row = a[p];
+        a[p] = b[p];
+        b[p] = row;
+        left = left & (left - 1);
     }
-    r
 }
 
 // The states in own entered by each letter in its other sense.
-fn turned(enter: [u64; 64], own: u64) -> [u64; 64]
-    ensures { λ r. ⌜ Turned enter own 64 r ⌝ }
+fn mirror(enter: &mut [u64], own: u64)
+    requires { ⌜ length (now enter) ≡ 64 ⌝ }
+    ensures { λ _. ⌜ Turned (now (enter .entry)) own 64 (now (enter .exit)) ⌝ }
 {
-    let mut r = enter;
     let mut c = 0;
     while c < 64 {
-        let d = c + 1 - 2 * (c % 2);
-        r[c] = (enter[c] & !own) | (enter[d] & own);
-        c += 1;
+        let forward = enter[c];
+        let against = enter[c + 1];
+        enter[c] = (forward & !own) | (against & own);
+        enter[c + 1] = (against & !own) | (forward & own);
+        c += 2;
     }
-    r
 }
 
 // x, or nothing if n is 0.
@@ -81,34 +84,26 @@ fn only(n: u64, x: u64) -> u64
     x
 }
 
-// The set that the letter of number c is looked for in, by its sense.
-fn side_of(c: usize, forward: u32, against: u32) -> u32
-    ensures { λ r. ⌜ r ≡ sideOf forward against c ⌝ }
+// `bit` joined to the rows of the letters whose labels are in the set, all in one sense: 0 forward, 1 against.
+fn enter_by(enter: &mut [u64], labels: u32, sense: usize, bit: u64)
+    requires { ⌜ (length (now enter) ≡ 64) × (sense < 2) ⌝ }
+    ensures { λ _. ⌜ Joined (now (enter .entry)) (sensed labels sense) bit (now (enter .exit)) ⌝ }
 {
-    if c % 2 == 1 { against } else { forward }
-}
-
-// `bit` joined to the rows of the letters in the two sets.
-fn entered(enter: [u64; 64], forward: u32, against: u32, bit: u64) -> [u64; 64]
-    ensures { λ r. ⌜ Joined enter (letterDigit forward against) bit 64 r ⌝ }
-{
-    let mut r = enter;
-    let mut c = 0;
-    while c < 64 {
-        if (side_of(c, forward, against) >> (c / 2)) % 2 == 1 {
-            r[c] = r[c] | bit;
-        }
-        c += 1;
+    let mut left = labels as u64;
+    while left != 0 {
+        let c = u64::trailing_zeros(left) as usize * 2 + sense;
+        enter[c] = enter[c] | bit;
+        left = left & (left - 1);
     }
-    r
 }
 
 // A symbol: one more position, entered by the letters that it stands for.
-fn symbol(b: Build, forward: u32, against: u32) -> Build
-    requires { ⌜ (b .top < 19) × (b .used < maxLetters) ⌝ }
-    ensures { λ r. ⌜ ((m : ℕ) (st : List Part) → Holds b m st → Holds r (m + 1) (parts .of forward against ∷ st)) ⌝ }
+fn symbol(enter: &mut [u64], s: Stack, forward: u32, against: u32) -> Stack
+    requires { ⌜ (length (now enter) ≡ 64) × (s .top < places) × (s .used < maxLetters) ⌝ }
+    ensures { λ r. ⌜ ((fs ps : List ℕ) (m : ℕ) (st : List Part) → Holds (build fs ps (now (enter .entry)) s) m st
+        → Holds (build fs ps (now (enter .exit)) r) (m + 1) (parts .of forward against ∷ st)) ⌝ }
 {
-    let mut r = b;
+    let mut r = s;
     let q = r.used + 1;
     let i = r.top;
     let bit = 1 << q;
@@ -116,20 +111,20 @@ fn symbol(b: Build, forward: u32, against: u32) -> Build
     r.last[i] = bit;
     r.own[i] = bit;
     r.nullable[i] = 0;
-    let enter = r.enter;
-    let joint = entered(enter, forward, against, bit);
-    r.enter = joint;
     r.used = q;
     r.top = i + 1;
+    enter_by(enter, forward, 0, bit);
+    enter_by(enter, against, 1, bit);
     r
 }
 
 // Alternatives: the two that wait become one.
-fn either(b: Build) -> Build
-    requires { ⌜ (2 ≤ b .top) × (b .top ≤ 19) ⌝ }
-    ensures { λ r. ⌜ ((m : ℕ) (x y : Part) (st : List Part) → Holds b m (y ∷ x ∷ st) → Holds r m (parts .either x y ∷ st)) ⌝ }
+fn either(s: Stack) -> Stack
+    requires { ⌜ (2 ≤ s .top) × (s .top ≤ places) ⌝ }
+    ensures { λ r. ⌜ ((fs ps es : List ℕ) (m : ℕ) (x y : Part) (st : List Part) → Holds (build fs ps es s) m (y ∷ x ∷ st)
+        → Holds (build fs ps es r) m (parts .either x y ∷ st)) ⌝ }
 {
-    let mut r = b;
+    let mut r = s;
     let j = r.top - 1;
     let i = j - 1;
     r.first[i] = r.first[i] | r.first[j];
@@ -141,147 +136,134 @@ fn either(b: Build) -> Build
 }
 
 // A sequence: besides, the first of the right may follow the last of the left.
-fn followed(b: Build) -> Build
-    requires { ⌜ (2 ≤ b .top) × (b .top ≤ 19) ⌝ }
-    ensures { λ r. ⌜ ((m : ℕ) (x y : Part) (st : List Part) → Holds b m (y ∷ x ∷ st) → Holds r m (parts .followed x y ∷ st)) ⌝ }
+fn followed(follow: &mut [u64], pred: &mut [u64], s: Stack) -> Stack
+    requires { ⌜ (length (now follow) ≡ 64) × (length (now pred) ≡ 64) × (2 ≤ s .top) × (s .top ≤ places) ⌝ }
+    ensures { λ r. ⌜ ((es : List ℕ) (m : ℕ) (x y : Part) (st : List Part)
+        → Holds (build (now (follow .entry)) (now (pred .entry)) es s) m (y ∷ x ∷ st)
+        → Holds (build (now (follow .exit)) (now (pred .exit)) es r) m (parts .followed x y ∷ st)) ⌝ }
 {
-    let mut r = b;
+    let mut r = s;
     let j = r.top - 1;
     let i = j - 1;
     let last = r.last[i];
     let first = r.first[j];
-    let follow = r.follow;
-    let pred = r.pred;
-    let onward = joined(follow, last, first);
-    let back = joined(pred, first, last);
-    r.follow = onward;
-    r.pred = back;
     r.first[i] = r.first[i] | only(r.nullable[i], first);
     r.last[i] = r.last[j] | only(r.nullable[j], last);
     r.own[i] = r.own[i] | r.own[j];
     r.nullable[i] = r.nullable[i] & r.nullable[j];
     r.top = j;
+    with_edges(follow, last, first);
+    with_edges(pred, first, last);
     r
 }
 
 // One or more: the first may follow the last.
-fn repeated(b: Build) -> Build
-    requires { ⌜ (1 ≤ b .top) × (b .top ≤ 19) ⌝ }
-    ensures { λ r. ⌜ ((m : ℕ) (x : Part) (st : List Part) → Holds b m (x ∷ st) → Holds r m (parts .repeated x ∷ st)) × (r .top ≡ b .top) ⌝ }
+fn repeated(follow: &mut [u64], pred: &mut [u64], s: Stack)
+    requires { ⌜ (length (now follow) ≡ 64) × (length (now pred) ≡ 64) × (1 ≤ s .top) × (s .top ≤ places) ⌝ }
+    ensures { λ _. ⌜ ((es : List ℕ) (m : ℕ) (x : Part) (st : List Part)
+        → Holds (build (now (follow .entry)) (now (pred .entry)) es s) m (x ∷ st)
+        → Holds (build (now (follow .exit)) (now (pred .exit)) es s) m (parts .repeated x ∷ st)) ⌝ }
 {
-    let mut r = b;
-    let j = r.top - 1;
-    let last = r.last[j];
-    let first = r.first[j];
-    let follow = r.follow;
-    let pred = r.pred;
-    let onward = joined(follow, last, first);
-    let back = joined(pred, first, last);
-    r.follow = onward;
-    r.pred = back;
-    r
+    let j = s.top - 1;
+    let last = s.last[j];
+    let first = s.first[j];
+    with_edges(follow, last, first);
+    with_edges(pred, first, last);
 }
 
 // Once or not at all.
-fn maybe(b: Build) -> Build
-    requires { ⌜ (1 ≤ b .top) × (b .top ≤ 19) ⌝ }
-    ensures { λ r. ⌜ ((m : ℕ) (x : Part) (st : List Part) → Holds b m (x ∷ st) → Holds r m (parts .maybe x ∷ st)) ⌝ }
+fn maybe(s: Stack) -> Stack
+    requires { ⌜ (1 ≤ s .top) × (s .top ≤ places) ⌝ }
+    ensures { λ r. ⌜ ((fs ps es : List ℕ) (m : ℕ) (x : Part) (st : List Part) → Holds (build fs ps es s) m (x ∷ st)
+        → Holds (build fs ps es r) m (parts .maybe x ∷ st)) ⌝ }
 {
-    let mut r = b;
+    let mut r = s;
     let j = r.top - 1;
     r.nullable[j] = 1;
     r
 }
 
 // Inverted: read backwards, each letter in its other sense.
-fn inverted(b: Build) -> Build
-    requires { ⌜ (1 ≤ b .top) × (b .top ≤ 19) ⌝ }
-    ensures { λ r. ⌜ ((m : ℕ) (x : Part) (st : List Part) → Holds b m (x ∷ st) → Holds r m (parts .inverted x ∷ st)) ⌝ }
+fn inverted(follow: &mut [u64], pred: &mut [u64], enter: &mut [u64], s: Stack) -> Stack
+    requires { ⌜ (length (now follow) ≡ 64) × (length (now pred) ≡ 64) × (length (now enter) ≡ 64) × (1 ≤ s .top) × (s .top ≤ places) ⌝ }
+    ensures { λ r. ⌜ ((m : ℕ) (x : Part) (st : List Part)
+        → Holds (build (now (follow .entry)) (now (pred .entry)) (now (enter .entry)) s) m (x ∷ st)
+        → Holds (build (now (follow .exit)) (now (pred .exit)) (now (enter .exit)) r) m (parts .inverted x ∷ st)) ⌝ }
 {
-    let mut r = b;
+    let mut r = s;
     let j = r.top - 1;
     let own = r.own[j];
-    let follow = r.follow;
-    let pred = r.pred;
-    let enter = r.enter;
-    let onward = mixed(follow, pred, own);
-    let back = mixed(pred, follow, own);
-    let entered = turned(enter, own);
-    r.follow = onward;
-    r.pred = back;
-    r.enter = entered;
     let first = r.first[j];
     r.first[j] = r.last[j];
     r.last[j] = first;
+    exchange(follow, pred, own);
+    mirror(enter, own);
     r
 }
 
 // One number of the code.
-fn step(b: Build, i: u64) -> Build
-    requires { ⌜ ((c : List ℕ) × (x : Part) × Next b (i ∷ c) x) ⌝ }
-    ensures { λ r. ⌜ ((c : List ℕ) (x : Part) → Next b (i ∷ c) x → Next r c x) ⌝ }
+fn step(follow: &mut [u64], pred: &mut [u64], enter: &mut [u64], s: Stack, i: u64) -> Stack
+    requires { ⌜ (length (now follow) ≡ 64) × (length (now pred) ≡ 64) × (length (now enter) ≡ 64)
+        × ((c : List ℕ) × (x : Part) × Next (build (now follow) (now pred) (now enter) s) (i ∷ c) x) ⌝ }
+    ensures { λ r. ⌜ ((c : List ℕ) (x : Part) → Next (build (now (follow .entry)) (now (pred .entry)) (now (enter .entry)) s) (i ∷ c) x
+        → Next (build (now (follow .exit)) (now (pred .exit)) (now (enter .exit)) r) c x) ⌝ }
 {
     let item = reader::item_of(i);
     match item {
-        Item::Letters(forward, against) => symbol(b, forward, against),
-        Item::Inverse => inverted(b),
-        Item::Star => maybe(repeated(b)),
-        Item::Plus => repeated(b),
-        Item::Optional => maybe(b),
-        Item::Alternative => either(b),
-        Item::Sequence => followed(b),
+        Item::Letters(forward, against) => symbol(enter, s, forward, against),
+        Item::Inverse => inverted(follow, pred, enter, s),
+        Item::Star => {
+            repeated(follow, pred, s);
+            maybe(s)
+        }
+        Item::Plus => {
+            repeated(follow, pred, s);
+            s
+        }
+        Item::Optional => maybe(s),
+        Item::Alternative => either(s),
+        Item::Sequence => followed(follow, pred, s),
     }
 }
 
 pub struct Tables {
-    pub follow: [u64; 64],
-    pub pred: [u64; 64],
-    pub enter: [u64; 64],
+    pub follow: [u64; STATES],
+    pub pred: [u64; STATES],
+    pub enter: [u64; STATES],
     pub accepting: u64,
 }
 
-// The tables that the code of an expression builds, before the start is added.
-fn built(numbers: &[u64]) -> Build
-    requires { ⌜ ((text : List ℕ) × (e : Expr) × InLimits text e × (now numbers ≡ code e)) ⌝ }
-    ensures { λ r. ⌜ ((text : List ℕ) (e : Expr) → InLimits text e → now (numbers .entry) ≡ code e → Alone r (value parts e)) ⌝ }
+// The tables that the code of an expression builds from empty ones, before the start is added; against the sense, those of its inverse.
+fn built(
+    numbers: &[u64],
+    against: bool,
+    follow: &mut [u64],
+    pred: &mut [u64],
+    enter: &mut [u64],
+) -> Stack
+    requires { ⌜ (length (now follow) ≡ 64) × (length (now pred) ≡ 64) × (length (now enter) ≡ 64) × ((p : ℕ) → getD (now follow) p 0 ≡ 0)
+        × ((p : ℕ) → getD (now pred) p 0 ≡ 0) × ((p : ℕ) → getD (now enter) p 0 ≡ 0)
+        × ((text : List ℕ) × (e : Expr) × InLimits text e × (now numbers ≡ code e)) ⌝ }
+    ensures { λ r. ⌜ ((text : List ℕ) (e : Expr) → InLimits text e → now (numbers .entry) ≡ code e
+        → Alone (build (now (follow .exit)) (now (pred .exit)) (now (enter .exit)) r) (value parts (inSense against e))) ⌝ }
 {
-    let mut b = Build {
-        follow: [0; 64],
-        pred: [0; 64],
-        enter: [0; 64],
-        first: [0; 19],
-        last: [0; 19],
-        own: [0; 19],
-        nullable: [0; 19],
+    let mut s = Stack {
+        first: [0; PLACES],
+        last: [0; PLACES],
+        own: [0; PLACES],
+        nullable: [0; PLACES],
         top: 0,
         used: 0,
     };
     let mut i = 0;
     while i < numbers.len() {
-        b = step(b, numbers[i]);
+        s = step(follow, pred, enter, s, numbers[i]);
         i += 1;
     }
-    b
-}
-
-// With the start added, the tables of the automaton.
-fn started(b: Build) -> Tables
-    ensures { λ r. ⌜ ((x : Part) → Alone b x → Masked (r .follow) (r .pred) (r .enter) (r .accepting) (Automata·started (x .fragment 0))) ⌝ }
-{
-    let first = b.first[0];
-    let last = b.last[0];
-    let nullable = b.nullable[0];
-    let before = b.pred;
-    let enter = b.enter;
-    let mut follow = b.follow;
-    follow[0] = first;
-    let pred = joined(before, first, 1);
-    Tables {
-        follow,
-        pred,
-        enter,
-        accepting: last | nullable,
+    if against {
+        return inverted(follow, pred, enter, s);
     }
+    s
 }
 
 // The tables of the automaton of the expression whose code it is; against the sense, those of its inverse.
@@ -290,9 +272,19 @@ pub fn tables_of(numbers: &[u64], against: bool) -> Tables
     ensures { λ r. ⌜ ((text : List ℕ) (e : Expr) → InLimits text e → now (numbers .entry) ≡ code e
         → Masked (r .follow) (r .pred) (r .enter) (r .accepting) (automaton (inSense against e))) ⌝ }
 {
-    let b = built(numbers);
-    if against {
-        return started(inverted(b));
+    let mut follow = [0u64; STATES];
+    let mut pred = [0u64; STATES];
+    let mut enter = [0u64; STATES];
+    let s = built(numbers, against, &mut follow, &mut pred, &mut enter);
+    let first = s.first[0];
+    let last = s.last[0];
+    let nullable = s.nullable[0];
+    follow[0] = first;
+    with_edges(&mut pred, first, 1);
+    Tables {
+        follow,
+        pred,
+        enter,
+        accepting: last | nullable,
     }
-    started(b)
 }

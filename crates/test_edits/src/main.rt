@@ -58,7 +58,7 @@ fn pair(from: u32, to: u32) {
 fn pairs(part: &[u32]) {
     for i in 0..part.len() {
         let word = part[i];
-        pair(register::from_of(word), register::to_of(word));
+        pair(links::from_of(word), links::to_of(word));
     }
 }
 

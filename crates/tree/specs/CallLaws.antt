@@ -23,6 +23,7 @@ use Rattle.book.specs.Basics.{pick, In, here, there}
 use Rattle.book.specs.Causes.{Cause, bad-size, no-record, bad-tree, short-work, short-list, number, treeOrder, firstNumber, InOrder, none-left, same-cause}
 use Rattle.book.specs.Causes.{maxRecords}
 use Rattle.book.specs.ListLaws.{in-none}
+use Rattle.book.specs.SetLaws.{and-both, or-neither}
 use Rattle.k2.specs.PairSets.{PairsBelow}
 use Rattle.k2.specs.Trees.{treeUnit, WellFormed}
 use Rattle.k2.specs.TreeLaws.{tree-none}
@@ -36,14 +37,6 @@ sense-other zero f = absurd (f refl)
 sense-other (suc w) f = refl
 
 -- ---- tests
-and-both : (s t : Bool) → (s && t) ≡ true → (s ≡ true) × (t ≡ true)
-and-both true t e = (refl, e)
-and-both false t e = absurd (let z : _≡_ {A = ℕ} 0 1 = cc in omega arith)
-
-or-none : (s t : Bool) → (s || t) ≡ false → (s ≡ false) × (t ≡ false)
-or-none false t e = (refl, e)
-or-none true t e = absurd (let z : _≡_ {A = ℕ} 0 1 = cc in omega arith)
-
 pub all-below : (n : ℕ) (ps : List ℕ) → allBelow n ps ≡ true → (w : ℕ) → In w ps → (w / 1024 < n) × (w % 1024 < n)
 unfolding allBelow
 all-below n [] e w i = absurd (in-none i refl)
@@ -131,7 +124,7 @@ module _ (n : ℕ) (ps : List ℕ) (ts : List (List ℕ)) (k : ℕ) where
   pub lent-met : firstNumber (lentCauses n ps ts k) ≡ 0 → (1 ≤ n) × (n ≤ maxRecords) × (allBelow n ps ≡ true) × (allFormed n ts ≡ true) × (32 * treeUnit n ≤ k)
   lent-met e =
       let o = lent-off e in
-      let s = or-none (ltb n 1) (ltb maxRecords n) (o .0) in (
+      let s = or-neither (ltb n 1) (ltb maxRecords n) (o .0) in (
         ltb-false n 1 (s .0),
         ltb-false maxRecords n (s .1),
         not-false (allBelow n ps) (o .1),

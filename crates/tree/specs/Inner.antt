@@ -29,10 +29,12 @@ use mathlib.Core.List.{List, map}
 use Prim.Native.Nat.{ℕ, _*_, _≤_}
 use lib.ListN.{length, take, drop}
 use Rattle.book.specs.Causes.{maxRecords}
+use Rattle.k2.specs.Sizes.{rowsWords}
 use Rattle.k2.specs.Bits.{bitAt}
 use Rattle.k2.specs.PairSets.{Cells, IsSet, PairsBelow, union, intersection, difference, product, closure, diagonal}
 use Rattle.k2.specs.Trees.{treeWords, treeUnit}
-use Rattle.rows.specs.Rows.{flat, linkPair, crossedWords}
+use Rattle.rows.specs.Rows.{flat, crossedWords}
+use Rattle.links.specs.Links.{linkPair}
 use Rattle.packing.specs.declared.loading.Sense.{Sense}
 use Rattle.packing.specs.declared.loading.Sense.the-variants.{Plain}
 use Rattle.packing.specs.Senses.{sensed, opposite}
@@ -79,7 +81,7 @@ pub record Roomy (n : ℕ) (t : Term) (k : ℕ) : Type 0 where
 pub record Room (n : ℕ) (t : Term) (work used rows : ℕ) : Type 0 where
   pub trees : Roomy n t work
   pub records : used ≡ 16
-  pub bits : rows ≡ 16384
+  pub bits : rows ≡ rowsWords
 
 pub record Lent (t : Term) (n : ℕ) (ws : List ℕ) (u : ℕ → ℕ) (work : List ℕ) (a b : Cells) : Type 0 where
   pub first : IsSet n a

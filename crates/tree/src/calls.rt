@@ -14,6 +14,7 @@ ghost use mathlib.Core.List.{[], _∷_};
 ghost use Prim.Native.Nat.{_≤_};
 ghost use lib.ListN.{length, take};
 ghost use Rattle.book.specs.Causes.{firstNumber, maxRecords};
+ghost use Rattle.k2.specs.Sizes.{mostTreeWords};
 ghost use Rattle.k2.specs.PairSets.{Cells, IsSet, listed, union, intersection, difference, transpose, closure, PairsBelow};
 ghost use Rattle.k2.specs.Trees.{treeWords};
 ghost use Rattle.bits.specs.BitSets.{none};
@@ -60,7 +61,7 @@ fn refusal(n: usize, pairs: &[u32], a: &[u64], b: &[u64], room: usize) -> u32
     if !packing::well_formed(b, n) {
         return book::BAD_TREE;
     }
-    if room < 32 * packing::tree_unit(n) {
+    if room < 32 * k2::tree_unit(n) {
         return book::SHORT_WORK;
     }
     0
@@ -97,7 +98,7 @@ fn made(term: Term, work: &mut [u64], n: usize, links: &[u32]) -> usize
         → TreeAt n (termSet term n (now (links .entry)) none a b) (now (work .exit)) r) ⌝ }
 {
     let used: [u64; 16] = [0; 16];
-    let mut rows: [u64; 16384] = [0; 16384];
+    let mut rows: [u64; k2::ROWS_WORDS] = [0; k2::ROWS_WORDS];
     operate(term, work, n, links, &used, &mut rows)
 }
 
@@ -267,10 +268,10 @@ pub fn make(n: usize, pairs: &[u32], out: &mut [u64], work: &mut [u64]) -> Count
 
 // The pairs of a tree handed over.
 fn list_pairs(tree: &[u64], n: usize, out: &mut [u32]) -> Counted
-    requires { ⌜ (n ≤ maxRecords) × (length (now tree) ≤ 21846) ⌝ }
+    requires { ⌜ (n ≤ maxRecords) × (length (now tree) ≤ mostTreeWords) ⌝ }
     ensures { λ r. ⌜ ((a : Cells) → IsSet n a → now (tree .entry) ≡ treeWords n a → FirstPart (listed n a) (now (out .entry)) (now (out .exit)) r) ⌝ }
 {
-    let mut rows: [u64; 16384] = [0; 16384];
+    let mut rows: [u64; k2::ROWS_WORDS] = [0; k2::ROWS_WORDS];
     packing::load(tree, n, Sense::Plain, &mut rows);
     hand_over(&rows, n, out)
 }

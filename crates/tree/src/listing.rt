@@ -5,11 +5,12 @@ ghost use lib.ListN.{length};
 ghost use Rattle.book.specs.Causes.{maxRecords};
 ghost use Rattle.rows.specs.Rows.{pairsIn};
 ghost use Rattle.answers.specs.Answers.{FirstPart};
+ghost use Rattle.k2.specs.Sizes.{rowsWords};
 use answers::Counted;
 
 // The pairs of the first n rows written, ascending, as many as the list takes; how many they are in all.
 pub(crate) fn hand_over(rows: &[u64], n: usize, out: &mut [u32]) -> Counted
-    requires { ⌜ (n ≤ maxRecords) × (length (now rows) ≡ 16384) ⌝ }
+    requires { ⌜ (n ≤ maxRecords) × (length (now rows) ≡ rowsWords) ⌝ }
     ensures { λ r. ⌜ FirstPart (pairsIn n (now (rows .entry))) (now (out .entry)) (now (out .exit)) r ⌝ }
 {
     let total = rows::count_pairs(rows, n);

@@ -5,6 +5,7 @@ ghost use mathlib.Core.Bool.{true};
 ghost use Prim.Native.Nat.{ℕ, _+_, _≤_};
 ghost use lib.ListN.{length, take, drop};
 ghost use Rattle.book.specs.Causes.{maxRecords};
+ghost use Rattle.k2.specs.Sizes.{rowsWords};
 ghost use Rattle.k2.specs.Bits.{bitAt};
 ghost use Rattle.k2.specs.PairSets.{Cells, IsSet, union};
 ghost use Rattle.k2.specs.Trees.{treeWords, treeUnit};
@@ -52,7 +53,7 @@ pub fn no_operand() -> Operand
 }
 
 // The other sense.
-fn turned(sense: Sense) -> Sense
+fn opposite(sense: Sense) -> Sense
     ensures { λ r. ⌜ r ≡ opposite sense ⌝ }
 {
     match sense {
@@ -68,7 +69,7 @@ pub fn inverted(operand: Operand) -> Operand
     let sense = operand.sense;
     Operand {
         size: operand.size,
-        sense: turned(sense),
+        sense: opposite(sense),
         forward: operand.forward,
         against: operand.against,
     }
@@ -76,7 +77,7 @@ pub fn inverted(operand: Operand) -> Operand
 
 // The links of an operand's letters put into rows, read with its sense.
 fn put_links(operand: Operand, links: &[u32], rows: &mut [u64])
-    requires { ⌜ length (now rows) ≡ 16384 ⌝ }
+    requires { ⌜ length (now rows) ≡ rowsWords ⌝ }
     ensures { λ _. ⌜ ((x : Cells) → bitAt (now (rows .entry)) ≡ flat x
         → bitAt (now (rows .exit)) ≡ flat (union x (sensed (operand .sense) (crossedWords (now (links .entry)) (operand .forward) (operand .against))))) ⌝ }
 {
@@ -94,7 +95,7 @@ fn put_links(operand: Operand, links: &[u32], rows: &mut [u64])
 
 // The tree of an operand, at word `at`, put into rows, read with its sense.
 fn load_tree(work: &[u64], at: usize, operand: Operand, n: usize, rows: &mut [u64])
-    requires { ⌜ (n ≤ maxRecords) × (operand .size ≤ treeUnit n) × (at + operand .size ≤ length (now work)) × (length (now rows) ≡ 16384) ⌝ }
+    requires { ⌜ (n ≤ maxRecords) × (operand .size ≤ treeUnit n) × (at + operand .size ≤ length (now work)) × (length (now rows) ≡ rowsWords) ⌝ }
     ensures { λ _. ⌜ ((a x : Cells) → IsSet n a → take (operand .size) (drop at (now (work .entry))) ≡ treeWords n a → bitAt (now (rows .entry)) ≡ flat x
         → bitAt (now (rows .exit)) ≡ flat (union x (sensed (operand .sense) a))) ⌝ }
 {
@@ -108,7 +109,7 @@ fn load_tree(work: &[u64], at: usize, operand: Operand, n: usize, rows: &mut [u6
 
 // An operand, whose tree is at word `at`, put into rows.
 fn load(work: &[u64], at: usize, operand: Operand, n: usize, links: &[u32], rows: &mut [u64])
-    requires { ⌜ (n ≤ maxRecords) × (operand .size ≤ treeUnit n) × (at + operand .size ≤ length (now work)) × (length (now rows) ≡ 16384) ⌝ }
+    requires { ⌜ (n ≤ maxRecords) × (operand .size ≤ treeUnit n) × (at + operand .size ≤ length (now work)) × (length (now rows) ≡ rowsWords) ⌝ }
     ensures { λ _. ⌜ ((a x : Cells) → IsSet n a → take (operand .size) (drop at (now (work .entry))) ≡ treeWords n a → bitAt (now (rows .entry)) ≡ flat x
         → bitAt (now (rows .exit)) ≡ flat (union x (valued (now (links .entry)) operand a))) ⌝ }
 {
@@ -119,13 +120,13 @@ fn load(work: &[u64], at: usize, operand: Operand, n: usize, links: &[u32], rows
 // The operation on the set in rows and the second operand, which is loaded into rows of its own, for a product with its pairs exchanged: intersection,
 // difference or product. Left in rows.
 fn with_second(term: Term, work: &[u64], n: usize, links: &[u32], rows: &mut [u64])
-    requires { ⌜ Roomy n term (length (now work)) × Apart (term .operation) × (length (now rows) ≡ 16384) ⌝ }
+    requires { ⌜ Roomy n term (length (now work)) × Apart (term .operation) × (length (now rows) ≡ rowsWords) ⌝ }
     ensures { λ _. ⌜ ((a b : Cells) (u : ℕ → ℕ) → IsSet n a → IsSet n b
         → take (term .second .size) (drop (term .first .size) (now (work .entry))) ≡ treeWords n b
         → LinksBelow n (now (links .entry)) → bitAt (now (rows .entry)) ≡ flat a
         → bitAt (now (rows .exit)) ≡ flat (outcome (term .operation) n u a (valued (now (links .entry)) (term .second) b))) ⌝ }
 {
-    let mut other: [u64; 16384] = [0; 16384];
+    let mut other: [u64; k2::ROWS_WORDS] = [0; k2::ROWS_WORDS];
     let first = term.first;
     let second = term.second;
     let operation = term.operation;
@@ -151,7 +152,7 @@ fn with_second(term: Term, work: &[u64], n: usize, links: &[u32], rows: &mut [u6
 
 // The operation on the set in rows and the second operand, left in rows.
 fn combine(term: Term, work: &[u64], n: usize, links: &[u32], used: &[u64], rows: &mut [u64])
-    requires { ⌜ Roomy n term (length (now work)) × (length (now used) ≡ 16) × (length (now rows) ≡ 16384) ⌝ }
+    requires { ⌜ Roomy n term (length (now work)) × (length (now used) ≡ 16) × (length (now rows) ≡ rowsWords) ⌝ }
     ensures { λ _. ⌜ ((a b : Cells) → IsSet n a → IsSet n b → take (term .second .size) (drop (term .first .size) (now (work .entry))) ≡ treeWords n b
         → LinksBelow n (now (links .entry)) → bitAt (now (rows .entry)) ≡ flat a
         → bitAt (now (rows .exit)) ≡ flat (outcome (term .operation) n (bitAt (now (used .entry))) a (valued (now (links .entry)) (term .second) b))) ⌝ }
@@ -190,10 +191,10 @@ fn room(n: usize, term: Term, work: usize, used: usize, rows: usize) -> bool
     if used != 16 {
         return false;
     }
-    if rows != 16384 {
+    if rows != k2::ROWS_WORDS {
         return false;
     }
-    let unit = packing::tree_unit(n);
+    let unit = k2::tree_unit(n);
     let first = term.first;
     let second = term.second;
     if unit < first.size {

@@ -24,27 +24,6 @@ loop-holds c =
     let l = now (c .args .to) in
     (omega arith, refl, rw add-zero (wrote-none at l (omega arith)))
 
-mul-to : tie.Need-mul-to Inv-loop μ-loop
-mul-to c = omega arith
-
-shared-slice-read-to : tie.Need-shared-slice-read-to Inv-loop μ-loop
-shared-slice-read-to c = omega arith
-
-add-to : tie.Need-add-to Inv-loop μ-loop
-add-to c = omega arith
-
-mul-to-2 : tie.Need-mul-to-2 Inv-loop μ-loop
-mul-to-2 c = omega arith
-
-slice-write-to : tie.Need-slice-write-to Inv-loop μ-loop
-slice-write-to c = omega arith
-
-add-i : tie.Need-add-i Inv-loop μ-loop
-add-i c = omega arith
-
-loop-less : tie.Need-loop-less Inv-loop μ-loop
-loop-less c = omega arith
-
 loop-again : tie.Need-loop-again Inv-loop μ-loop
 loop-again c =
     let s = c .before .before .before .args in
@@ -53,9 +32,6 @@ loop-again c =
       simp length-set (here .inv .1),
       wrote-more (s .at) (here .i) (now (s .from)) (now (s .to)) (here .to) (here .inv .2) (omega arith) (omega arith),
     )
-
-add-result : tie.Need-add-result Inv-loop μ-loop
-add-result c = omega arith
 
 same-length : tie.Need-same-length Inv-loop μ-loop
 same-length c = c .before .loop .inv .1
@@ -73,14 +49,8 @@ copy-u64-spec =
     Inv-loop
     μ-loop
     loop-holds
-    mul-to
-    shared-slice-read-to
-    add-to
-    mul-to-2
-    slice-write-to
-    add-i
-    loop-less
+    (λ c. omega arith) (λ c. omega arith) (λ c. omega arith) (λ c. omega arith) (λ c. omega arith) (λ c. omega arith) (λ c. omega arith)
     loop-again
-    add-result
+    (λ c. omega arith)
     same-length
     returns)

@@ -11,15 +11,6 @@ use Rattle.answers.specs.ListingLaws.{shown-in, shown-out}
 use Rattle.answers.proofs.put_u32.Statement.{statement}
 use Rattle.answers.proofs.put_u32.Tie as tie
 
-mul-out : tie.Need-mul-out
-mul-out c = search needs
-
-slice-write-out : tie.Need-slice-write-out
-slice-write-out c = search needs
-
-same-length : tie.Need-same-length
-same-length c = search needs
-
 returns : tie.Need-returns
 returns c l e h k s =
     let a = c .before .args in (
@@ -33,4 +24,4 @@ returns-2 c l e h k s =
     (sym (length-append l (a .v ∷ []) ∙ ap (λ (x : ℕ). x + 1) h), shown-out l e (a .out .now) (a .v) s (omega arith))
 
 pub put-u32-spec : {M : Type 1} → statement M
-put-u32-spec = tie.close (tie.spec mul-out slice-write-out same-length returns returns-2)
+put-u32-spec = tie.close (tie.spec (λ c. search needs) (λ c. search needs) (λ c. search needs) returns returns-2)

@@ -6,12 +6,6 @@ use Rattle.arcs.specs.Index.{firstArc}
 use Rattle.arcs.proofs.first_arc.Statement.{statement}
 use Rattle.arcs.proofs.first_arc.Tie as tie
 
-mul-result : tie.Need-mul-result
-mul-result c = search needs
-
-shared-slice-read-result : tie.Need-shared-slice-read-result
-shared-slice-read-result c = search needs
-
 cast-result : tie.Need-cast-result
 cast-result c = omega (arith, c .shared-slice-known .given (c .before .args .r) .fits)
 
@@ -20,4 +14,4 @@ unfolding firstArc
 returns c = refl
 
 pub first-arc-spec : {M : Type 1} → statement M
-first-arc-spec = tie.close (tie.spec mul-result shared-slice-read-result cast-result returns)
+first-arc-spec = tie.close (tie.spec (λ c. search needs) (λ c. search needs) cast-result returns)

@@ -19,51 +19,6 @@ abbrev μ-loop : tie.MeasureT-loop
 loop-holds : tie.Need-loop-holds Inv-loop μ-loop
 loop-holds c = (omega arith, length-replicate {A = ℕ} 9216 0, indexed-none _ 9216 (omega arith))
 
-mul-record : tie.Need-mul-record Inv-loop μ-loop
-mul-record c = omega arith
-
-shared-slice-read-record : tie.Need-shared-slice-read-record Inv-loop μ-loop
-shared-slice-read-record c = omega arith
-
-shr-record : tie.Need-shr-record Inv-loop μ-loop
-shr-record c = omega arith
-
-cast-record : tie.Need-cast-record Inv-loop μ-loop
-cast-record c = omega arith
-
-mul-index : tie.Need-mul-index Inv-loop μ-loop
-mul-index c = omega arith
-
-array-read-index : tie.Need-array-read-index Inv-loop μ-loop
-array-read-index c = omega arith
-
-add-index : tie.Need-add-index Inv-loop μ-loop
-add-index c = omega arith
-
-mul-index-2 : tie.Need-mul-index-2 Inv-loop μ-loop
-mul-index-2 c = omega arith
-
-array-write-index : tie.Need-array-write-index Inv-loop μ-loop
-array-write-index c = omega arith
-
-add-index-2 : tie.Need-add-index-2 Inv-loop μ-loop
-add-index-2 c = omega arith
-
-cast-index : tie.Need-cast-index Inv-loop μ-loop
-cast-index c = omega arith
-
-mul-index-3 : tie.Need-mul-index-3 Inv-loop μ-loop
-mul-index-3 c = omega arith
-
-array-write-index-2 : tie.Need-array-write-index-2 Inv-loop μ-loop
-array-write-index-2 c = omega arith
-
-add-j : tie.Need-add-j Inv-loop μ-loop
-add-j c = omega arith
-
-loop-less : tie.Need-loop-less Inv-loop μ-loop
-loop-less c = omega arith
-
 loop-again : tie.Need-loop-again Inv-loop μ-loop
 unfolding keyAt
 loop-again c =
@@ -81,20 +36,8 @@ index-of-spec =
     Inv-loop
     μ-loop
     loop-holds
-    mul-record
-    shared-slice-read-record
-    shr-record
-    cast-record
-    mul-index
-    array-read-index
-    add-index
-    mul-index-2
-    array-write-index
-    add-index-2
-    cast-index
-    mul-index-3
-    array-write-index-2
-    add-j
-    loop-less
+    (λ c. omega arith) (λ c. omega arith) (λ c. omega arith) (λ c. omega arith) (λ c. omega arith) (λ c. omega arith) (λ c. omega arith)
+    (λ c. omega arith) (λ c. omega arith) (λ c. omega arith) (λ c. omega arith) (λ c. omega arith) (λ c. omega arith) (λ c. omega arith)
+    (λ c. omega arith)
     loop-again
     returns)

@@ -7,15 +7,6 @@ use Rattle.arcs.specs.Index.{nextArc}
 use Rattle.arcs.proofs.next_arc.Statement.{statement}
 use Rattle.arcs.proofs.next_arc.Tie as tie
 
-add-result : tie.Need-add-result
-add-result c = search needs
-
-mul-result : tie.Need-mul-result
-mul-result c = search needs
-
-shared-slice-read-result : tie.Need-shared-slice-read-result
-shared-slice-read-result c = search needs
-
 cast-result : tie.Need-cast-result
 cast-result c = omega (arith, c .shared-slice-known .given (1024 + c .before .args .j) .fits)
 
@@ -25,4 +16,4 @@ returns c = refl
 
 pub next-arc-spec : {M : Type 1} → statement M
 next-arc-spec =
-    tie.close (tie.spec add-result mul-result shared-slice-read-result cast-result returns)
+    tie.close (tie.spec (λ c. search needs) (λ c. search needs) (λ c. search needs) cast-result returns)

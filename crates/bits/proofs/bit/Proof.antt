@@ -6,15 +6,6 @@ use Rattle.k2.specs.BitLaws.{bit-out}
 use Rattle.bits.proofs.bit.Statement.{statement}
 use Rattle.bits.proofs.bit.Tie as tie
 
-mul-result : tie.Need-mul-result
-mul-result c = search needs
-
-shared-slice-read-result : tie.Need-shared-slice-read-result
-shared-slice-read-result c = search needs
-
-shr-result : tie.Need-shr-result
-shr-result c = search needs
-
 returns : tie.Need-returns
 unfolding bitAt digit
 returns c = search needs
@@ -23,4 +14,4 @@ returns-2 : tie.Need-returns-2
 returns-2 c = sym (bit-out _ _ (c .if1 .left))
 
 pub bit-spec : {M : Type 1} → statement M
-bit-spec = tie.close (tie.spec mul-result shared-slice-read-result shr-result returns returns-2)
+bit-spec = tie.close (tie.spec (λ c. search needs) (λ c. search needs) (λ c. search needs) returns returns-2)

@@ -5,15 +5,6 @@ use Rattle.bits.specs.BitSetLaws.{four-in, four-out}
 use Rattle.bits.proofs.four.Statement.{statement}
 use Rattle.bits.proofs.four.Tie as tie
 
-mul-result : tie.Need-mul-result
-mul-result c = search needs
-
-shared-slice-read-result : tie.Need-shared-slice-read-result
-shared-slice-read-result c = search needs
-
-shr-result : tie.Need-shr-result
-shr-result c = search needs
-
 returns : tie.Need-returns
 returns c = sym (four-in _ _ (c .before .before .pre))
 
@@ -21,4 +12,4 @@ returns-2 : tie.Need-returns-2
 returns-2 c = sym (four-out _ _ (c .if1 .left))
 
 pub four-spec : {M : Type 1} → statement M
-four-spec = tie.close (tie.spec mul-result shared-slice-read-result shr-result returns returns-2)
+four-spec = tie.close (tie.spec (λ c. search needs) (λ c. search needs) (λ c. search needs) returns returns-2)

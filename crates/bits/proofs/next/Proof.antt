@@ -21,27 +21,12 @@ returns c =
     let a = c .before .before .args in
     next-none _ (a .lo) (a .end) (a .end) (omega arith) (omega arith) (gap-past (a .words .now) (a .lo) (a .end) (c .if1 .taken))
 
-mul-rest : tie.Need-mul-rest Inv-loop μ-loop
-mul-rest c = omega arith
-
-shared-slice-read-rest : tie.Need-shared-slice-read-rest Inv-loop μ-loop
-shared-slice-read-rest c = omega arith
-
-shr-rest : tie.Need-shr-rest Inv-loop μ-loop
-shr-rest c = omega arith
-
-place-requires : tie.Need-place-requires Inv-loop μ-loop
-place-requires c κs = omega arith
-
 returns-2 : tie.Need-returns-2 Inv-loop μ-loop
 returns-2 c =
     let a = c .before .before .before .before .before .args in
     next-here (a .words .now) (a .lo / 64) (a .lo % 64) (c .before .before .shared-slice-known2 .given (a .lo / 64) .fits)
     (omega (arith, c .before .if2 .taken))
-    (a .lo) (a .end) _ (omega arith) (omega arith) (c .place .ensures)
-
-add-q : tie.Need-add-q Inv-loop μ-loop
-add-q c = omega arith
+    (a .lo) (a .end) _ (omega arith) (omega arith) (c .lowest-set .ensures)
 
 loop-holds : tie.Need-loop-holds Inv-loop μ-loop
 loop-holds c =
@@ -55,37 +40,13 @@ returns-3 c =
     next-none _ (a .lo) (a .end) (a .end) (omega arith) (omega arith)
     (gap-join _ (a .lo) (l .q * 64) (a .end) (l .inv .3) (gap-past (a .words .now) (l .q * 64) (a .end) (omega arith)))
 
-mul-if4 : tie.Need-mul-if4 Inv-loop μ-loop
-mul-if4 c = omega arith
-
-shared-slice-read-if4 : tie.Need-shared-slice-read-if4 Inv-loop μ-loop
-shared-slice-read-if4 c = omega arith
-
-mul-place : tie.Need-mul-place Inv-loop μ-loop
-mul-place c = omega arith
-
-mul-place-2 : tie.Need-mul-place-2 Inv-loop μ-loop
-mul-place-2 c = omega arith
-
-shared-slice-read-place : tie.Need-shared-slice-read-place Inv-loop μ-loop
-shared-slice-read-place c = omega arith
-
-place-requires-2 : tie.Need-place-requires-2 Inv-loop μ-loop
-place-requires-2 c κs = omega arith
-
 returns-4 : tie.Need-returns-4 Inv-loop μ-loop
 returns-4 c =
     let a = c .before .before .before .before .before .before .before .before .before .before .before .args in
     let l = c .before .before .before .before .before .before .loop in
     next-after _ (a .lo) (l .q * 64) (a .end) _ (l .inv .2) (l .inv .3)
     (next-word (a .words .now) (l .q) (a .end) _ (c .before .before .before .shared-slice-known3 .given (l .q) .fits)
-    (omega (arith, c .before .before .if4 .taken)) (omega arith) (c .place2 .ensures))
-
-add-q-2 : tie.Need-add-q-2 Inv-loop μ-loop
-add-q-2 c = omega arith
-
-loop-less : tie.Need-loop-less Inv-loop μ-loop
-loop-less c = omega arith
+    (omega (arith, c .before .before .if4 .taken)) (omega arith) (c .lowest-set2 .ensures))
 
 loop-again : tie.Need-loop-again Inv-loop μ-loop
 loop-again c =
@@ -106,22 +67,13 @@ next-spec =
     Inv-loop
     μ-loop
     returns
-    mul-rest
-    shared-slice-read-rest
-    shr-rest
-    place-requires
+    (λ c. omega arith) (λ c. omega arith) (λ c. omega arith) (λ c κs. omega arith)
     returns-2
-    add-q
+    (λ c. omega arith)
     loop-holds
     returns-3
-    mul-if4
-    shared-slice-read-if4
-    mul-place
-    mul-place-2
-    shared-slice-read-place
-    place-requires-2
+    (λ c. omega arith) (λ c. omega arith) (λ c. omega arith) (λ c. omega arith) (λ c. omega arith) (λ c κs. omega arith)
     returns-4
-    add-q-2
-    loop-less
+    (λ c. omega arith) (λ c. omega arith)
     loop-again
     returns-5)

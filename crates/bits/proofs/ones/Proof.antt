@@ -20,12 +20,6 @@ loop-holds : tie.Need-loop-holds Inv-loop μ-loop
 unfolding onesBelow
 loop-holds c = (omega arith, refl)
 
-mul-n : tie.Need-mul-n Inv-loop μ-loop
-mul-n c = omega arith
-
-shared-slice-read-n : tie.Need-shared-slice-read-n Inv-loop μ-loop
-shared-slice-read-n c = omega arith
-
 cast-n : tie.Need-cast-n Inv-loop μ-loop
 cast-n c = omega (arith, ones-fit 64 _ (c .shared-slice-known .given (c .before .before .loop .i) .fits))
 
@@ -36,12 +30,6 @@ add-n c =
       ones-fit 64 _ (c .shared-slice-known .given (c .before .before .loop .i) .fits),
       ones-le _ (bit-lt (c .before .before .before .args .words .now)) (c .before .before .loop .i * 64),
     )
-
-add-i : tie.Need-add-i Inv-loop μ-loop
-add-i c = omega arith
-
-loop-less : tie.Need-loop-less Inv-loop μ-loop
-loop-less c = omega arith
 
 loop-again : tie.Need-loop-again Inv-loop μ-loop
 loop-again c =
@@ -62,11 +50,9 @@ ones-spec =
     Inv-loop
     μ-loop
     loop-holds
-    mul-n
-    shared-slice-read-n
+    (λ c. omega arith) (λ c. omega arith)
     cast-n
     add-n
-    add-i
-    loop-less
+    (λ c. omega arith) (λ c. omega arith)
     loop-again
     returns)

@@ -37,15 +37,6 @@ counted c =
     (ap (λ (x : ℕ). x + ones (getD ws (p / 64) 0 % 2 ^ (p % 64))) (c .before .ones2 .ensures)
     ∙ sym (ones-part ws (p / 64) (p % 64) (omega arith)) ∙ ap (onesBelow (bitAt ws)) s)
 
-mul-result : tie.Need-mul-result
-mul-result c = omega arith
-
-shared-slice-read-result : tie.Need-shared-slice-read-result
-shared-slice-read-result c = omega arith
-
-shl-result : tie.Need-shl-result
-shl-result c = omega arith
-
 rem-result : tie.Need-rem-result
 rem-result c = rw (one-shl (c .before .before .before .before .args .p % 64) (omega arith)) (pow-pos _)
 
@@ -69,9 +60,7 @@ rank-spec =
     ones-requires
     returns
     ones-requires-2
-    mul-result
-    shared-slice-read-result
-    shl-result
+    (λ c. omega arith) (λ c. omega arith) (λ c. omega arith)
     rem-result
     cast-result
     add-result

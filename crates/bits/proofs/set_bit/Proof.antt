@@ -7,24 +7,6 @@ use Rattle.bits.specs.BitSetLaws.{bits-set, digit-or-pow}
 use Rattle.bits.proofs.set_bit.Statement.{statement}
 use Rattle.bits.proofs.set_bit.Tie as tie
 
-mul-words : tie.Need-mul-words
-mul-words c = search needs
-
-slice-read-words : tie.Need-slice-read-words
-slice-read-words c = search needs
-
-shl-words : tie.Need-shl-words
-shl-words c = search needs
-
-mul-words-2 : tie.Need-mul-words-2
-mul-words-2 c = search needs
-
-slice-write-words : tie.Need-slice-write-words
-slice-write-words c = search needs
-
-same-length : tie.Need-same-length
-same-length c = search needs
-
 returns : tie.Need-returns
 returns c =
     rw (one-shl (c .before .args .p % 64) (omega arith)) (bits-set _ (c .before .args .p) _ 1 (c .before .pre) (digit-or-pow _ _))
@@ -33,10 +15,5 @@ pub set-bit-spec : {M : Type 1} → statement M
 set-bit-spec =
     tie.close
     (tie.spec
-    mul-words
-    slice-read-words
-    shl-words
-    mul-words-2
-    slice-write-words
-    same-length
+    (λ c. search needs) (λ c. search needs) (λ c. search needs) (λ c. search needs) (λ c. search needs) (λ c. search needs)
     returns)

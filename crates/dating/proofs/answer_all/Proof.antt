@@ -74,12 +74,6 @@ returns-2 c =
     (loops-stop programWords mostTurns _ _ (l .turns) (l .state) (l .list) (t .last .1 .1 .0) _ _ _ (t .result .ran) (some in-loop) (l .inv .loops) (t .ensures)
     (not-true _ (c .if2 .taken)))
 
-sub-turns : tie.Need-sub-turns Inv-loop μ-loop
-sub-turns c = omega arith
-
-loop-less : tie.Need-loop-less Inv-loop μ-loop
-loop-less c = omega arith
-
 loop-again : tie.Need-loop-again Inv-loop μ-loop
 loop-again c =
     let after-turn = c .before .before .before .before .before .before .before .before .before in
@@ -115,7 +109,6 @@ answer-all-spec =
     turn-requires
     returns
     returns-2
-    sub-turns
-    loop-less
+    (λ c. omega arith) (λ c. omega arith)
     loop-again
     returns-3)

@@ -13,20 +13,8 @@ use borrow.Author.Needs.{needs}
 use Rattle.dating.proofs.read_frame.Statement.{statement}
 use Rattle.dating.proofs.read_frame.Tie as tie
 
-slice-relend-prefix-read-full : tie.Need-slice-relend-prefix-read-full
-slice-relend-prefix-read-full c = search needs
-
 slice-aggregate-read-full : tie.Need-slice-aggregate-read-full
 slice-aggregate-read-full c = sym (length-take-le 2 (now (c .before .before .args .bytes)) (omega arith))
-
-read-full-requires : tie.Need-read-full-requires
-read-full-requires c κs = search needs
-
-same-length : tie.Need-same-length
-same-length c = search needs
-
-returns : tie.Need-returns
-returns c = search needs
 
 -- the length is at most two bytes, and the buffer as long as it was
 two : (c : tie.After-read-full) → c .read-full .result ≤ 2
@@ -40,17 +28,11 @@ long c =
     let bytes = now (c .before .before .before .args .bytes) in
     omega (arith, k, length-take-le 2 bytes (omega arith), length-append (c .read-full .last .1 .0) (drop 2 bytes), length-drop 2 bytes)
 
-slice-reshare-prefix-following : tie.Need-slice-reshare-prefix-following
-slice-reshare-prefix-following c = search needs
-
 slice-aggregate-following : tie.Need-slice-aggregate-following
 slice-aggregate-following c =
     let after-read-full = c .before .before .before .before in
     let start = after-read-full .before .before .before in
     sym (length-take-le 2 (after-read-full .read-full .last .1 .0 ++ drop 2 (now (start .args .bytes))) (omega (arith, long after-read-full)))
-
-following-requires : tie.Need-following-requires
-following-requires c κs = search needs
 
 small : (c : tie.After-following) → c .following .result ≤ maxFrame
 small c =
@@ -63,17 +45,8 @@ small c =
 add-read-full : tie.Need-add-read-full
 add-read-full c = omega (arith, small (c))
 
-sub-read-full : tie.Need-sub-read-full
-sub-read-full c = search needs
-
-part-read-full-start : tie.Need-part-read-full-start
-part-read-full-start c = search needs
-
 part-read-full-end : tie.Need-part-read-full-end
 part-read-full-end c = omega (arith, small (c), long (c .before .before .before .before .before))
-
-read-full-requires-2 : tie.Need-read-full-requires-2
-read-full-requires-2 c κs = search needs
 
 -- and what comes after it at most as many as follow
 rest : (c : tie.After-read-full2) → c .read-full2 .result ≤ c .before .before .following .result
@@ -89,9 +62,6 @@ add-result c =
     let after-following = c .before .before .before .before in
     let after-read-full = after-following .before .before .before .before .before in
     omega (arith, two after-read-full, rest (c .before .before), small after-following)
-
-same-length-2 : tie.Need-same-length-2
-same-length-2 c = search needs
 
 returns-2 : tie.Need-returns-2
 returns-2 c =
@@ -112,19 +82,15 @@ pub read-frame-spec : {M : Type 1} → statement M
 read-frame-spec =
     tie.close
     (tie.spec
-    slice-relend-prefix-read-full
+    (λ c. search needs)
     slice-aggregate-read-full
-    read-full-requires
-    same-length
-    returns
-    slice-reshare-prefix-following
+    (λ c κs. search needs) (λ c. search needs) (λ c. search needs) (λ c. search needs)
     slice-aggregate-following
-    following-requires
+    (λ c κs. search needs)
     add-read-full
-    sub-read-full
-    part-read-full-start
+    (λ c. search needs) (λ c. search needs)
     part-read-full-end
-    read-full-requires-2
+    (λ c κs. search needs)
     add-result
-    same-length-2
+    (λ c. search needs)
     returns-2)

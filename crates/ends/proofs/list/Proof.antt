@@ -4,11 +4,12 @@ use mathlib.Core.Path.{_≡_, refl, sym, _∙_}
 use Prim.Native.Nat.{_-_, _≤_}
 use native.Mathlib.Omega.{arith}
 use lib.ListN.{length}
-use Rattle.ends.specs.Ends.{places}
+use Rattle.rows.specs.RowLaws.{length-places}
+use Rattle.rows.specs.Rows.{places}
 use Rattle.answers.specs.Listing.{Shown}
 use Rattle.answers.specs.ListingLaws.{shown-none}
 use Rattle.ends.specs.Listing.{meets}
-use Rattle.ends.proofs.ListLaws.{places-next, places-short}
+use Rattle.ends.proofs.ListLaws.{places-next}
 use Rattle.ends.proofs.list.Statement.{statement}
 use Rattle.ends.proofs.list.Tie as tie
 
@@ -36,13 +37,10 @@ write-requires : tie.Need-write-requires Inv-loop μ-loop
 write-requires c κs =
     let at-loop = c .before .before .before in
     let start = at-loop .before .before .before in
-    let h = places-short (meets (start .args .seen .now) (start .args .states)) (at-loop .loop .y) in omega (arith, at-loop .loop .inv .2, start .pre .1)
+    let h = length-places (meets (start .args .seen .now) (start .args .states)) (at-loop .loop .y) in omega (arith, at-loop .loop .inv .2, start .pre .1)
 
 add-y : tie.Need-add-y Inv-loop μ-loop
 add-y c = omega (arith, c .before .before .before .before .before .before .before .before .before .pre .1)
-
-loop-less : tie.Need-loop-less Inv-loop μ-loop
-loop-less c = omega arith
 
 loop-again : tie.Need-loop-again Inv-loop μ-loop
 unfolding meets
@@ -74,7 +72,7 @@ list-spec =
     cast-write
     write-requires
     add-y
-    loop-less
+    (λ c. omega arith)
     loop-again
     same-length
     returns)

@@ -10,15 +10,6 @@ use Rattle.ends.proofs.write.Tie as tie
 returns : tie.Need-returns
 returns c = let a = c .before .before .args in grown-none (a .t) _ (a .out .now) (set-none (a .states) (a .y) (c .if1 .taken))
 
-put-u32-requires : tie.Need-put-u32-requires
-put-u32-requires c κs = search needs
-
-add-result : tie.Need-add-result
-add-result c = search needs
-
-same-length : tie.Need-same-length
-same-length c = search needs
-
 returns-2 : tie.Need-returns-2
 returns-2 c =
     let else1 = c .before .before .before .before in
@@ -26,4 +17,4 @@ returns-2 c =
     grown-to (a .t) _ _ _ (a .out .now) _ (sym (set-some (a .states) (a .y) (omega (arith, else1 .if1 .left)))) (c .before .before .put-u32 .ensures)
 
 pub write-spec : {M : Type 1} → statement M
-write-spec = tie.close (tie.spec returns put-u32-requires add-result same-length returns-2)
+write-spec = tie.close (tie.spec returns (λ c κs. search needs) (λ c. search needs) (λ c. search needs) returns-2)

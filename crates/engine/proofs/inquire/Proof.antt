@@ -18,30 +18,6 @@ use Rattle.engine.specs.DemandLaws.{claims, replayed-calls, none-linked}
 use Rattle.engine.proofs.inquire.Statement.{statement}
 use Rattle.engine.proofs.inquire.Tie as tie
 
-replay-requires : tie.Need-replay-requires
-replay-requires c κs = search needs
-
-number-of-requires : tie.Need-number-of-requires
-number-of-requires c κs = search needs
-
-size-requires : tie.Need-size-requires
-size-requires c κs = search needs
-
-links-requires : tie.Need-links-requires
-links-requires c κs = search needs
-
-marks-requires : tie.Need-marks-requires
-marks-requires c κs = search needs
-
-totals-requires : tie.Need-totals-requires
-totals-requires c κs = search needs
-
-same-length : tie.Need-same-length
-same-length c = search needs
-
-same-length-2 : tie.Need-same-length-2
-same-length-2 c = search needs
-
 returns : tie.Need-returns
 unfolding has fresh total tally
 returns c =
@@ -69,27 +45,6 @@ returns c =
           };
       made = λ z. absurd (c .if1 .taken (k ∙ z));
     }
-
-pairs-requires : tie.Need-pairs-requires
-pairs-requires c κs = search needs
-
-chain-requires : tie.Need-chain-requires
-chain-requires c κs = search needs
-
-same-length-3 : tie.Need-same-length-3
-same-length-3 c = search needs
-
-same-length-4 : tie.Need-same-length-4
-same-length-4 c = search needs
-
-same-length-5 : tie.Need-same-length-5
-same-length-5 c = search needs
-
-same-length-6 : tie.Need-same-length-6
-same-length-6 c = search needs
-
-same-length-7 : tie.Need-same-length-7
-same-length-7 c = search needs
 
 -- the questions are lent the same work
 lent : {e : Register} {x y : ℕ} {u : List ℕ} {k m : ℕ} {l l′ : List ℕ} {t : ChainAnswer} → k ≡ m → Replies e x y u k l l′ t → Replies e x y u m l l′ t
@@ -135,20 +90,8 @@ pub inquire-spec : {M : Type 1} → statement M
 inquire-spec =
     tie.close
     (tie.spec
-    replay-requires
-    number-of-requires
-    size-requires
-    links-requires
-    marks-requires
-    totals-requires
-    same-length
-    same-length-2
+    (λ c κs. search needs) (λ c κs. search needs) (λ c κs. search needs) (λ c κs. search needs) (λ c κs. search needs) (λ c κs. search needs)
+    (λ c. search needs) (λ c. search needs)
     returns
-    pairs-requires
-    chain-requires
-    same-length-3
-    same-length-4
-    same-length-5
-    same-length-6
-    same-length-7
+    (λ c κs. search needs) (λ c κs. search needs) (λ c. search needs) (λ c. search needs) (λ c. search needs) (λ c. search needs) (λ c. search needs)
     returns-2)

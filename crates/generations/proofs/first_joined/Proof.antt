@@ -24,17 +24,8 @@ mul-bit c = omega (arith, c .before .before .before .pre)
 add-bit : tie.Need-add-bit Inv-loop μ-loop
 add-bit c = omega (arith, c .before .before .before .pre)
 
-bit-requires : tie.Need-bit-requires Inv-loop μ-loop
-bit-requires c κs = search needs
-
 returns : tie.Need-returns Inv-loop μ-loop
 returns c = record { most = omega arith; below = c .before .before .before .loop .inv .1; holds = λ h. sym (c .before .bit .ensures) ∙ c .if1 .taken }
-
-add-x : tie.Need-add-x Inv-loop μ-loop
-add-x c = omega arith
-
-loop-less : tie.Need-loop-less Inv-loop μ-loop
-loop-less c = omega arith
 
 loop-again : tie.Need-loop-again Inv-loop μ-loop
 loop-again c =
@@ -56,9 +47,8 @@ first-joined-spec =
     loop-holds
     mul-bit
     add-bit
-    bit-requires
+    (λ c κs. search needs)
     returns
-    add-x
-    loop-less
+    (λ c. omega arith) (λ c. omega arith)
     loop-again
     returns-2)

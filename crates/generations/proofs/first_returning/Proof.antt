@@ -9,24 +9,6 @@ use Rattle.generations.proofs.NumberLaws.{smallest-closed}
 use Rattle.generations.proofs.first_returning.Statement.{statement}
 use Rattle.generations.proofs.first_returning.Tie as tie
 
-slice-aggregate-put-letters : tie.Need-slice-aggregate-put-letters
-slice-aggregate-put-letters c = search needs
-
-put-letters-requires : tie.Need-put-letters-requires
-put-letters-requires c κs = search needs
-
-slice-aggregate-close-rows : tie.Need-slice-aggregate-close-rows
-slice-aggregate-close-rows c = search needs
-
-close-rows-requires : tie.Need-close-rows-requires
-close-rows-requires c κs = search needs
-
-slice-aggregate-first-joined : tie.Need-slice-aggregate-first-joined
-slice-aggregate-first-joined c = search needs
-
-first-joined-requires : tie.Need-first-joined-requires
-first-joined-requires c κs = search needs
-
 returns : tie.Need-returns
 returns c =
     let after-close = c .before .before .before in
@@ -44,10 +26,5 @@ pub first-returning-spec : {M : Type 1} → statement M
 first-returning-spec =
     tie.close
     (tie.spec
-    slice-aggregate-put-letters
-    put-letters-requires
-    slice-aggregate-close-rows
-    close-rows-requires
-    slice-aggregate-first-joined
-    first-joined-requires
+    (λ c. search needs) (λ c κs. search needs) (λ c. search needs) (λ c κs. search needs) (λ c. search needs) (λ c κs. search needs)
     returns)

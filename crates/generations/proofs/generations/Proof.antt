@@ -10,7 +10,7 @@ use lib.ListN.{length, take}
 use Rattle.book.specs.Causes.{bad-label, short-work, short-list, number}
 use Rattle.book.specs.Book.{Book}
 use Rattle.paths.specs.Chains.{asked}
-use Rattle.register.specs.Links.{Linked}
+use Rattle.links.specs.Links.{Linked}
 use Rattle.register.specs.Representation.{Represents}
 use Rattle.rows.specs.Rows.{labelled}
 use Rattle.generations.specs.Generations.{GenerationsAre, numbers, above, written}
@@ -62,21 +62,12 @@ numbers-of c b R =
     d (subst (λ (l : List ℕ). Right l d) (kept-are after-keep) (t .0)) (t .1)
     (c .marks .result) (c .marks .ensures)
 
-any-above-requires : tie.Need-any-above-requires
-any-above-requires c κs = search needs
-
 returns : tie.Need-returns
 unfolding number
 returns c =
     let start = c .before .before .before .before .before in
     refuses 3 (bad-label, refl) (λ b R. label-first b (start .args .labels .now) (length (start .args .work .now))
     (length (start .args .list .now)) (sym (c .before .any-above .ensures) ∙ c .if1 .taken))
-
-size-requires : tie.Need-size-requires
-size-requires c κs = search needs
-
-mul-if2 : tie.Need-mul-if2
-mul-if2 c = search needs
 
 returns-2 : tie.Need-returns-2
 unfolding number
@@ -88,48 +79,6 @@ returns-2 c =
 
 set-of-requires : tie.Need-set-of-requires
 set-of-requires c κs = low (c .before .before)
-
-links-requires : tie.Need-links-requires
-links-requires c κs = search needs
-
-sub-keep : tie.Need-sub-keep
-sub-keep c = search needs
-
-part-keep-start : tie.Need-part-keep-start
-part-keep-start c = search needs
-
-part-keep-end : tie.Need-part-keep-end
-part-keep-end c = search needs
-
-slice-aggregate-keep : tie.Need-slice-aggregate-keep
-slice-aggregate-keep c = search needs
-
-keep-requires : tie.Need-keep-requires
-keep-requires c κs = search needs
-
-sub-visit-all : tie.Need-sub-visit-all
-sub-visit-all c = search needs
-
-part-visit-all-start : tie.Need-part-visit-all-start
-part-visit-all-start c = search needs
-
-part-visit-all-end : tie.Need-part-visit-all-end
-part-visit-all-end c = search needs
-
-slice-aggregate-visit-all : tie.Need-slice-aggregate-visit-all
-slice-aggregate-visit-all c = search needs
-
-visit-all-requires : tie.Need-visit-all-requires
-visit-all-requires c κs = search needs
-
-marks-requires : tie.Need-marks-requires
-marks-requires c κs = search needs
-
-slice-aggregate-count-in-use : tie.Need-slice-aggregate-count-in-use
-slice-aggregate-count-in-use c = search needs
-
-count-in-use-requires : tie.Need-count-in-use-requires
-count-in-use-requires c κs = search needs
 
 returns-3 : tie.Need-returns-3
 unfolding number written
@@ -145,12 +94,6 @@ returns-3 c =
     (low (else2 .before .before)) (omega (arith, else2 .if2 .left)) (numbers-of after-marks b R)
     (omega (arith, c .if4 .taken, c .before .count-in-use .ensures (after-visit-all .visit-all .last .1 .1 .0)))))
 
-slice-aggregate-write-numbers : tie.Need-slice-aggregate-write-numbers
-slice-aggregate-write-numbers c = search needs
-
-slice-aggregate-write-numbers-2 : tie.Need-slice-aggregate-write-numbers-2
-slice-aggregate-write-numbers-2 c = search needs
-
 write-numbers-requires : tie.Need-write-numbers-requires
 write-numbers-requires c κs =
     let else4 = c .before .before .before in
@@ -165,9 +108,6 @@ write-numbers-requires c κs =
       v .ensures .0 (after-marks .before .if3 .taken) .1,
       omega (arith, else4 .if4 .left, else4 .before .count-in-use .ensures (v .last .1 .1 .0)),
     )
-
-same-length : tie.Need-same-length
-same-length c = search needs
 
 returns-4 : tie.Need-returns-4
 unfolding written
@@ -186,29 +126,11 @@ returns-4 c =
     (low (else2 .before .before)) (omega (arith, else2 .if2 .left)) (numbers-of after-marks b R)
     (omega (arith, else4 .if4 .left, else4 .before .count-in-use .ensures d))))
 
-sub-first-returning : tie.Need-sub-first-returning
-sub-first-returning c = search needs
-
-part-first-returning-start : tie.Need-part-first-returning-start
-part-first-returning-start c = search needs
-
-part-first-returning-end : tie.Need-part-first-returning-end
-part-first-returning-end c = search needs
-
-first-returning-requires : tie.Need-first-returning-requires
-first-returning-requires c κs = search needs
-
 first-loop-requires : tie.Need-first-loop-requires
 first-loop-requires c κs =
     let earlier = c .before .before .before .before .before .before .before .before .before .before in
     let after-size = earlier .before .before .before .before .before .before .before .before .before .before in
     omega (arith, c .before .before .first-returning .ensures .0, after-size .size .ensures .small)
-
-same-length-2 : tie.Need-same-length-2
-same-length-2 c = search needs
-
-same-length-3 : tie.Need-same-length-3
-same-length-3 c = search needs
 
 returns-5 : tie.Need-returns-5
 returns-5 c =
@@ -235,37 +157,20 @@ pub generations-spec : {M : Type 1} → statement M
 generations-spec =
     tie.close
     (tie.spec
-    any-above-requires
+    (λ c κs. search needs)
     returns
-    size-requires
-    mul-if2
+    (λ c κs. search needs) (λ c. search needs)
     returns-2
     set-of-requires
-    links-requires
-    sub-keep
-    part-keep-start
-    part-keep-end
-    slice-aggregate-keep
-    keep-requires
-    sub-visit-all
-    part-visit-all-start
-    part-visit-all-end
-    slice-aggregate-visit-all
-    visit-all-requires
-    marks-requires
-    slice-aggregate-count-in-use
-    count-in-use-requires
+    (λ c κs. search needs) (λ c. search needs) (λ c. search needs) (λ c. search needs) (λ c. search needs) (λ c κs. search needs) (λ c. search needs)
+    (λ c. search needs) (λ c. search needs) (λ c. search needs) (λ c κs. search needs) (λ c κs. search needs) (λ c. search needs)
+    (λ c κs. search needs)
     returns-3
-    slice-aggregate-write-numbers
-    slice-aggregate-write-numbers-2
+    (λ c. search needs) (λ c. search needs)
     write-numbers-requires
-    same-length
+    (λ c. search needs)
     returns-4
-    sub-first-returning
-    part-first-returning-start
-    part-first-returning-end
-    first-returning-requires
+    (λ c. search needs) (λ c. search needs) (λ c. search needs) (λ c κs. search needs)
     first-loop-requires
-    same-length-2
-    same-length-3
+    (λ c. search needs) (λ c. search needs)
     returns-5)

@@ -22,14 +22,8 @@ loop-holds : tie.Need-loop-holds Inv-loop μ-loop
 unfolding chosen
 loop-holds c = (omega arith, omega arith, refl, wrote-none 0 _ (omega arith))
 
-mul-if1 : tie.Need-mul-if1 Inv-loop μ-loop
-mul-if1 c = omega arith
-
 shared-slice-read-if1 : tie.Need-shared-slice-read-if1 Inv-loop μ-loop
 shared-slice-read-if1 c = omega (arith, c .before .before .before .pre)
-
-mul-list : tie.Need-mul-list Inv-loop μ-loop
-mul-list c = omega arith
 
 shared-slice-read-list : tie.Need-shared-slice-read-list Inv-loop μ-loop
 shared-slice-read-list c = omega (arith, c .before .before .before .before .before .pre .2)
@@ -37,9 +31,6 @@ shared-slice-read-list c = omega (arith, c .before .before .before .before .befo
 sub-list : tie.Need-sub-list Inv-loop μ-loop
 sub-list c =
     omega (arith, c .before .before .before .before .before .pre .3 (c .before .before .before .before .loop .y) (c .before .before .before .loop-test .taken))
-
-mul-list-2 : tie.Need-mul-list-2 Inv-loop μ-loop
-mul-list-2 c = omega arith
 
 slice-write-list : tie.Need-slice-write-list Inv-loop μ-loop
 slice-write-list c =
@@ -52,15 +43,6 @@ slice-write-list c =
       l .inv .2,
       wrote-room (a .marks .now) (a .depths .now) (l .y) (l .inv .3) (a .n) (in-loop .loop-test .taken) (c .before .if1 .taken) (start .pre .4),
     )
-
-add-count : tie.Need-add-count Inv-loop μ-loop
-add-count c = omega arith
-
-add-y : tie.Need-add-y Inv-loop μ-loop
-add-y c = omega arith
-
-loop-less : tie.Need-loop-less Inv-loop μ-loop
-loop-less c = omega arith
 
 loop-again : tie.Need-loop-again Inv-loop μ-loop
 loop-again c =
@@ -101,16 +83,14 @@ write-numbers-spec =
     Inv-loop
     μ-loop
     loop-holds
-    mul-if1
+    (λ c. omega arith)
     shared-slice-read-if1
-    mul-list
+    (λ c. omega arith)
     shared-slice-read-list
     sub-list
-    mul-list-2
+    (λ c. omega arith)
     slice-write-list
-    add-count
-    add-y
-    loop-less
+    (λ c. omega arith) (λ c. omega arith) (λ c. omega arith)
     loop-again
     same-length
     returns)

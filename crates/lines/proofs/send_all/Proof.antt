@@ -44,12 +44,6 @@ returns-2 c =
     let t = c .before .before .before .before .before .before .turn in
     sends-stop (l .lines) (t .result .written) _ _ _ (omega arith) (l .inv .sends) (t .ensures)
 
-sub-lines : tie.Need-sub-lines Inv-loop μ-loop
-sub-lines c = omega arith
-
-loop-less : tie.Need-loop-less Inv-loop μ-loop
-loop-less c = omega arith
-
 loop-again : tie.Need-loop-again Inv-loop μ-loop
 loop-again c =
     let l = c .before .before .before .before .before .before .before .before .before .before .loop in
@@ -75,7 +69,6 @@ send-all-spec =
     turn-requires
     returns
     returns-2
-    sub-lines
-    loop-less
+    (λ c. omega arith) (λ c. omega arith)
     loop-again
     returns-3)

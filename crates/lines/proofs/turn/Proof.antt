@@ -7,17 +7,8 @@ use borrow.Author.Needs.{needs}
 use Rattle.lines.proofs.turn.Statement.{statement}
 use Rattle.lines.proofs.turn.Tie as tie
 
-read-line-requires : tie.Need-read-line-requires
-read-line-requires c κs = search needs
-
-slice-reshare-prefix-frame : tie.Need-slice-reshare-prefix-frame
-slice-reshare-prefix-frame c = search needs
-
 slice-aggregate-frame : tie.Need-slice-aggregate-frame
 slice-aggregate-frame c = sym (length-take-le _ _ (omega arith))
-
-frame-requires : tie.Need-frame-requires
-frame-requires c κs = search needs
 
 slice-reshare-prefix-write-all : tie.Need-slice-reshare-prefix-write-all
 slice-reshare-prefix-write-all c = let k = c .before .before .frame .kept .1 .0 in omega (arith, c .before .before .frame .ensures .fits, k)
@@ -27,15 +18,6 @@ slice-aggregate-write-all c =
     let after-frame = c .before .before .before in
     let k = after-frame .frame .kept .1 .0 in sym (length-take-le _ _ (omega (arith, after-frame .frame .ensures .fits, k)))
 
-write-all-requires : tie.Need-write-all-requires
-write-all-requires c κs = search needs
-
-same-length : tie.Need-same-length
-same-length c = search needs
-
-same-length-2 : tie.Need-same-length-2
-same-length-2 c = search needs
-
 returns : tie.Need-returns
 returns c = c .before .before .before .before .frame .ensures
 
@@ -43,13 +25,10 @@ pub turn-spec : {M : Type 1} → statement M
 turn-spec =
     tie.close
     (tie.spec
-    read-line-requires
-    slice-reshare-prefix-frame
+    (λ c κs. search needs) (λ c. search needs)
     slice-aggregate-frame
-    frame-requires
+    (λ c κs. search needs)
     slice-reshare-prefix-write-all
     slice-aggregate-write-all
-    write-all-requires
-    same-length
-    same-length-2
+    (λ c κs. search needs) (λ c. search needs) (λ c. search needs)
     returns)

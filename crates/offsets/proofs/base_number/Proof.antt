@@ -8,9 +8,6 @@ use Rattle.offsets.proofs.base_number.Tie as tie
 returns : tie.Need-returns
 returns c = let a = c .before .before .args in base-record (a .n) (a .state .now) (a .base) (a .count) (c .if1 .taken)
 
-is-withdrawn-requires : tie.Need-is-withdrawn-requires
-is-withdrawn-requires c κs = search needs
-
 returns-2 : tie.Need-returns-2
 returns-2 c =
     let a = c .before .before .before .before .args in
@@ -29,4 +26,4 @@ returns-4 c =
     (sym (c .before .before .is-withdrawn .ensures) ∙ c .before .if2 .left) (c .if3 .left)
 
 pub base-number-spec : {M : Type 1} → statement M
-base-number-spec = tie.close (tie.spec returns is-withdrawn-requires returns-2 returns-3 returns-4)
+base-number-spec = tie.close (tie.spec returns (λ c κs. search needs) returns-2 returns-3 returns-4)

@@ -17,19 +17,6 @@ first-is : (c : tie.After-sooner)
     (start .args .base) (start .args .count)) (start .args .found)
 first-is c = c .sooner .ensures ∙ ap (λ (k : ℕ). sooner k (c .before .before .before .before .args .found)) (c .before .base-number .ensures)
 
--- src/lib.rt:363:9
-open-number-requires : tie.Need-open-number-requires
-open-number-requires c κs = search needs
-
--- src/lib.rt:364:9
-base-number-requires : tie.Need-base-number-requires
-base-number-requires c κs = search needs
-
--- src/lib.rt:365:9
-sooner-requires : tie.Need-sooner-requires
-sooner-requires c κs = search needs
-
--- src/lib.rt:367:9
 returns : tie.Need-returns
 returns c =
     let after-open-number = c .before .before .before in
@@ -42,7 +29,6 @@ returns c =
       ),
     )
 
--- src/lib.rt:370:9
 returns-2 : tie.Need-returns-2
 returns-2 c =
     let after-open-number = c .before .before .before .before in
@@ -55,11 +41,6 @@ returns-2 c =
       ),
     )
 
--- src/lib.rt:373:21
-mul-if3 : tie.Need-mul-if3
-mul-if3 c = search needs
-
--- src/lib.rt:374:9
 returns-3 : tie.Need-returns-3
 returns-3 c =
     let after-sooner = c .before .before .before in
@@ -73,21 +54,11 @@ returns-3 c =
       ),
     )
 
--- src/lib.rt:376:40
-mul-fill : tie.Need-mul-fill
-mul-fill c = search needs
-
--- src/lib.rt:376:28
-slice-relend-prefix-fill : tie.Need-slice-relend-prefix-fill
-slice-relend-prefix-fill c = search needs
-
--- src/lib.rt:376:28
 slice-aggregate-fill : tie.Need-slice-aggregate-fill
 slice-aggregate-fill c =
     let s = c .before .before .before .before .before .before .before .before in
     let h : s .args .n * 3 ≤ length (s .args .work .now) = omega (arith, c .before .if3 .left) in sym (length-take-le (s .args .n * 3) (s .args .work .now) h)
 
--- src/lib.rt:376:5
 fill-requires : tie.Need-fill-requires
 fill-requires c κs =
     let else1 = c .before .before .before in
@@ -102,11 +73,6 @@ fill-requires c κs =
       ),
     )
 
--- src/lib.rt:360:1
-same-length : tie.Need-same-length
-same-length c = search needs
-
--- src/lib.rt:360:1
 returns-4 : tie.Need-returns-4
 returns-4 c =
     let else3 = c .before .before .before in
@@ -126,16 +92,13 @@ pub begin-spec : {M : Type 1} → statement M
 begin-spec =
     tie.close
     (tie.spec
-    open-number-requires
-    base-number-requires
-    sooner-requires
+    (λ c κs. search needs) (λ c κs. search needs) (λ c κs. search needs)
     returns
     returns-2
-    mul-if3
+    (λ c. search needs)
     returns-3
-    mul-fill
-    slice-relend-prefix-fill
+    (λ c. search needs) (λ c. search needs)
     slice-aggregate-fill
     fill-requires
-    same-length
+    (λ c. search needs)
     returns-4)

@@ -15,31 +15,15 @@ Inv-loop n base d₀ i₀ d i = (i ≤ length d) × ((length d ≡ length d₀) 
 abbrev μ-loop : tie.MeasureT-loop
 μ-loop n base d₀ i₀ d i = length d - i
 
--- src/lib.rt:134:5
 loop-holds : tie.Need-loop-holds Inv-loop μ-loop
 loop-holds c = (omega arith, (refl, begun-none (c .args .n) (c .args .base) (c .args .d .now)))
 
--- src/lib.rt:135:13
 first-number-requires : tie.Need-first-number-requires Inv-loop μ-loop
 first-number-requires c κs = c .before .before .pre .1
 
--- src/lib.rt:136:9
-mul-v : tie.Need-mul-v Inv-loop μ-loop
-mul-v c = search needs
-
--- src/lib.rt:136:9
-slice-set-from-v : tie.Need-slice-set-from-v Inv-loop μ-loop
-slice-set-from-v c = search needs
-
--- src/lib.rt:137:9
-add-i : tie.Need-add-i Inv-loop μ-loop
-add-i c = search needs
-
--- src/lib.rt:134:5
 loop-less : tie.Need-loop-less Inv-loop μ-loop
 loop-less c = simp length-set (omega arith)
 
--- src/lib.rt:134:5
 loop-again : tie.Need-loop-again Inv-loop μ-loop
 loop-again c =
     let l = c .before .before .loop in
@@ -51,11 +35,6 @@ loop-again c =
       ),
     )
 
--- src/lib.rt:129:1
-same-length : tie.Need-same-length Inv-loop μ-loop
-same-length c = search needs
-
--- src/lib.rt:129:1
 returns : tie.Need-returns Inv-loop μ-loop
 returns c =
     let l = c .before .loop in
@@ -70,10 +49,8 @@ fill-spec =
     μ-loop
     loop-holds
     first-number-requires
-    mul-v
-    slice-set-from-v
-    add-i
+    (λ c. search needs) (λ c. search needs) (λ c. search needs)
     loop-less
     loop-again
-    same-length
+    (λ c. search needs)
     returns)

@@ -8,12 +8,9 @@ use Rattle.offsets.specs.Inner.{isWithdrawnIn}
 use Rattle.offsets.proofs.is_withdrawn.Statement.{statement}
 use Rattle.offsets.proofs.is_withdrawn.Tie as tie
 
-mark-in-requires : tie.Need-mark-in-requires
-mark-in-requires c κs = search needs
-
 returns : tie.Need-returns
 unfolding isWithdrawnIn
 returns c = ap (λ (m : ℕ). eqb m withdrawnMark) (c .mark-in .ensures)
 
 pub is-withdrawn-spec : {M : Type 1} → statement M
-is-withdrawn-spec = tie.close (tie.spec mark-in-requires returns)
+is-withdrawn-spec = tie.close (tie.spec (λ c κs. search needs) returns)

@@ -6,15 +6,6 @@ use Rattle.offsets.proofs.NumberLaws.{tie-back}
 use Rattle.offsets.proofs.judged.Statement.{statement}
 use Rattle.offsets.proofs.judged.Tie as tie
 
--- src/lib.rt:147:9
-tie-number-requires : tie.Need-tie-number-requires
-tie-number-requires c κs = search needs
-
--- src/lib.rt:148:5
-sooner-requires : tie.Need-sooner-requires
-sooner-requires c κs = search needs
-
--- src/lib.rt:144:1
 returns : tie.Need-returns
 returns c =
     let s = c .before .before .before in
@@ -22,4 +13,4 @@ returns c =
     ∙ tie-back (s .args .n) (s .args .state .now) (s .args .first) (s .args .second) (s .args .least) (s .args .most) (s .fits .least) (s .fits .most))
 
 pub judged-spec : {M : Type 1} → statement M
-judged-spec = tie.close (tie.spec tie-number-requires sooner-requires returns)
+judged-spec = tie.close (tie.spec (λ c κs. search needs) (λ c κs. search needs) returns)

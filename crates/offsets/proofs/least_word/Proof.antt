@@ -4,49 +4,17 @@ use Rattle.offsets.proofs.TellLaws.{least-low, least-high, least-below,
 use Rattle.offsets.proofs.least_word.Statement.{statement}
 use Rattle.offsets.proofs.least_word.Tie as tie
 
--- src/lib.rt:331:15
-add-a : tie.Need-add-a
-add-a c = search needs
-
--- src/lib.rt:331:13
-mul-a : tie.Need-mul-a
-mul-a c = search needs
-
--- src/lib.rt:331:13
-shared-slice-copy-out-a : tie.Need-shared-slice-copy-out-a
-shared-slice-copy-out-a c = search needs
-
--- src/lib.rt:333:9
 returns : tie.Need-returns
 returns c = let s = c .before .before in λ _. least-low (s .args .n) (s .args .x) (s .args .d .now) (c .before .a .given) (c .if1 .taken)
 
--- src/lib.rt:336:9
 returns-2 : tie.Need-returns-2
 returns-2 c = let s = c .before .before .before in λ _. least-high (s .args .n) (s .args .x) (s .args .d .now) (c .before .before .a .given) (c .if2 .taken)
 
--- src/lib.rt:338:15
-mul-b : tie.Need-mul-b
-mul-b c = search needs
-
--- src/lib.rt:338:15
-add-b : tie.Need-add-b
-add-b c = search needs
-
--- src/lib.rt:338:13
-mul-b-2 : tie.Need-mul-b-2
-mul-b-2 c = search needs
-
--- src/lib.rt:338:13
-shared-slice-copy-out-b : tie.Need-shared-slice-copy-out-b
-shared-slice-copy-out-b c = search needs
-
--- src/lib.rt:340:9
 returns-3 : tie.Need-returns-3
 returns-3 c = let s = c .before .before .before .before .before in
     least-below (s .args .n) (s .args .x) (s .args .d .now) (c .before .before .before .before .a .given)
     (c .before .before .before .if1 .left) (c .before .before .if2 .left) (c .before .b .given) (c .if3 .taken)
 
--- src/lib.rt:343:9
 returns-4 : tie.Need-returns-4
 returns-4 c =
     let else2 = c .before .before .before in
@@ -54,7 +22,6 @@ returns-4 c =
     least-above (s .args .n) (s .args .x) (s .args .d .now) (else2 .before .before .a .given)
     (else2 .before .if1 .left) (else2 .if2 .left) (c .before .before .b .given) (c .if4 .taken)
 
--- src/lib.rt:345:13
 sub-v : tie.Need-sub-v
 sub-v c =
     let else2 = c .before .before .before in
@@ -62,11 +29,6 @@ sub-v c =
     sub-fits (s .args .n) (s .args .x) (s .args .d .now) (else2 .before .before .a .given)
     (else2 .before .if1 .left) (else2 .if2 .left) (c .before .before .b .given) (c .before .if3 .left) (c .if4 .left)
 
--- src/lib.rt:346:5
-narrow-requires : tie.Need-narrow-requires
-narrow-requires c κs = search needs
-
--- src/lib.rt:327:1
 returns-5 : tie.Need-returns-5
 returns-5 c =
     let after-b = c .before .before .before in
@@ -79,17 +41,12 @@ pub least-word-spec : {M : Type 1} → statement M
 least-word-spec =
     tie.close
     (tie.spec
-    add-a
-    mul-a
-    shared-slice-copy-out-a
+    (λ c. search needs) (λ c. search needs) (λ c. search needs)
     returns
     returns-2
-    mul-b
-    add-b
-    mul-b-2
-    shared-slice-copy-out-b
+    (λ c. search needs) (λ c. search needs) (λ c. search needs) (λ c. search needs)
     returns-3
     returns-4
     sub-v
-    narrow-requires
+    (λ c κs. search needs)
     returns-5)

@@ -5,32 +5,20 @@ use Rattle.offsets.proofs.LowerLaws.{no-from, no-to, too-low, too-high,
 use Rattle.offsets.proofs.lower.Statement.{statement}
 use Rattle.offsets.proofs.lower.Tie as tie
 
--- src/lib.rt:23:9
 returns : tie.Need-returns
 returns c = no-from (c .before .args .from) (c .before .args .to) (c .before .args .w) (c .before .args .d .now) (c .before .args .was) (c .if1 .taken)
 
--- src/lib.rt:26:9
 returns-2 : tie.Need-returns-2
 returns-2 c =
     no-to (c .before .before .args .from) (c .before .before .args .to) (c .before .before .args .w)
     (c .before .before .args .d .now) (c .before .before .args .was) (c .before .if1 .left) (c .if2 .taken)
 
--- src/lib.rt:28:13
-mul-a : tie.Need-mul-a
-mul-a c = search needs
-
--- src/lib.rt:28:13
-slice-copy-out-a : tie.Need-slice-copy-out-a
-slice-copy-out-a c = search needs
-
--- src/lib.rt:30:9
 returns-3 : tie.Need-returns-3
 returns-3 c =
     let else1 = c .before .before .before in
     too-low (else1 .before .args .from) (else1 .before .args .to) (else1 .before .args .w) (else1 .before .args .d .now)
     (else1 .before .args .was) (else1 .if1 .left) (c .before .before .if2 .left) (c .before .a .given) (c .if3 .taken)
 
--- src/lib.rt:33:9
 returns-4 : tie.Need-returns-4
 returns-4 c =
     let else2 = c .before .before .before in
@@ -38,7 +26,6 @@ returns-4 c =
     too-high (start .args .from) (start .args .to) (start .args .w) (start .args .d .now) (start .args .was)
     (else2 .before .if1 .left) (else2 .if2 .left) (c .before .before .a .given) (c .if4 .taken)
 
--- src/lib.rt:35:13
 add-v : tie.Need-add-v
 add-v c =
     let else2 = c .before .before .before in
@@ -46,27 +33,6 @@ add-v c =
     sum-fits (start .args .from) (start .args .to) (start .args .w) (start .args .d .now) (start .args .was)
     (else2 .before .if1 .left) (else2 .if2 .left) (c .before .before .a .given) (c .before .if3 .left) (c .if4 .left) (start .pre)
 
--- src/lib.rt:36:13
-mul-b : tie.Need-mul-b
-mul-b c = search needs
-
--- src/lib.rt:36:13
-slice-copy-out-b : tie.Need-slice-copy-out-b
-slice-copy-out-b c = search needs
-
--- src/lib.rt:38:9
-mul-v : tie.Need-mul-v
-mul-v c = search needs
-
--- src/lib.rt:38:9
-slice-set-from-v : tie.Need-slice-set-from-v
-slice-set-from-v c = search needs
-
--- src/lib.rt:39:9
-same-length : tie.Need-same-length
-same-length c = search needs
-
--- src/lib.rt:39:9
 returns-5 : tie.Need-returns-5
 returns-5 c =
     let else3 = c .before .before .before in
@@ -75,7 +41,6 @@ returns-5 c =
     (else1 .if1 .left) (else3 .before .before .if2 .left) (else3 .before .a .given) (else3 .if3 .left)
     (c .before .before .if4 .left) (else1 .before .pre) (c .before .b .given) (c .if5 .taken)
 
--- src/lib.rt:18:1
 returns-6 : tie.Need-returns-6
 returns-6 c =
     let else3 = c .before .before .before in
@@ -90,15 +55,10 @@ lower-spec =
     (tie.spec
     returns
     returns-2
-    mul-a
-    slice-copy-out-a
+    (λ c. search needs) (λ c. search needs)
     returns-3
     returns-4
     add-v
-    mul-b
-    slice-copy-out-b
-    mul-v
-    slice-set-from-v
-    same-length
+    (λ c. search needs) (λ c. search needs) (λ c. search needs) (λ c. search needs) (λ c. search needs)
     returns-5
     returns-6)

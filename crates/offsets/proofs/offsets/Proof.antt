@@ -71,10 +71,10 @@ use Rattle.offsets.proofs.settle as settle
 use Rattle.offsets.proofs.settle.Symbol as settle-def
 use Rattle.offsets.proofs.settle.Symbol.{name as #offsets·settle}
 use Rattle.offsets.proofs.settle.Met as settle-thm
-use Rattle.offsets.proofs.hand_over as hand-over
-use Rattle.offsets.proofs.hand_over.Symbol as hand-over-def
-use Rattle.offsets.proofs.hand_over.Symbol.{name as #offsets·hand-over}
-use Rattle.offsets.proofs.hand_over.Met as hand-over-thm
+use Rattle.offsets.proofs.tell_limits as tell-limits
+use Rattle.offsets.proofs.tell_limits.Symbol as tell-limits-def
+use Rattle.offsets.proofs.tell_limits.Symbol.{name as #offsets·tell-limits}
+use Rattle.offsets.proofs.tell_limits.Met as tell-limits-thm
 use Rattle.offsets.proofs.offsets.Key.{name as #offsets·offsets}
 use Rattle.offsets.proofs.offsets as offsets
 use Rattle.offsets.proofs.offsets.Statement as stated
@@ -110,7 +110,7 @@ module _ {M : Type 1} (𝓤 : URA M) (H : Heap 𝓤) (A : Atoms 𝓤) (mem : Mem
   Settle = tripleOf 𝓤 H A settle.signature (settle.spec 𝓤 H A mem run)
 
   abbrev Hand : Contract 𝓤
-  Hand = tripleOf 𝓤 H A hand-over.signature (hand-over.spec 𝓤 H A mem run)
+  Hand = tripleOf 𝓤 H A tell-limits.signature (tell-limits.spec 𝓤 H A mem run)
 
 -- the types of the locals
 abbrev word : Ty
@@ -327,7 +327,7 @@ module _ {M : Type 1} (𝓤 : URA M) (H : Heap 𝓤) (A : Atoms 𝓤) (W : Given
       (𝓣 : Tables 𝓤 H) (known-size : Triple 𝓤 (𝓣 .C #register·size-in) (Size 𝓤 H A at-mem run))
       (known-judge : Triple 𝓤 (𝓣 .C #offsets·judge) (Judge 𝓤 H A at-mem run))
       (known-begin : Triple 𝓤 (𝓣 .C #offsets·begin) (Begin 𝓤 H A at-mem run)) (known-rounds : Triple 𝓤 (𝓣 .C #offsets·rounds-of) (Rounds 𝓤 H A at-mem run))
-      (known-settle : Triple 𝓤 (𝓣 .C #offsets·settle) (Settle 𝓤 H A at-mem run)) (known-hand : Triple 𝓤 (𝓣 .C #offsets·hand-over) (Hand 𝓤 H A at-mem run))
+      (known-settle : Triple 𝓤 (𝓣 .C #offsets·settle) (Settle 𝓤 H A at-mem run)) (known-hand : Triple 𝓤 (𝓣 .C #offsets·tell-limits) (Hand 𝓤 H A at-mem run))
       (rs : Room u32 (length ws)) (rt : Room R (length ts)) (rw : Room i64 (length d₀)) (rl : Room i32 (length f₀)) where
     walk : ent 𝓤 (onEntry 𝓤 H A offsets.signature (κ, (κ′, (κ″, (κ‴, tt)))) (q, (q′, (q″, (q‴, tt)))) a at)
         (WpFn 𝓤 H (𝓣 .C) (𝓣 .Λ) code.function (v ∷ vint w16 base ∷ u ∷ s (length d₀) ∷ z ∷ []) Q)
@@ -482,10 +482,10 @@ module _ {M : Type 1} (𝓤 : URA M) (H : Heap 𝓤) (A : Atoms 𝓤) (W : Given
         (and-then ! (load ! (from ! (stop !)) (look ! 9 refl)) (and-then ! (load ! (from ! (stop !)) (look ! 5 refl)) (no-more !)))))) (λ w₆.
         use1 W
         (later (some (λ (k : ℕ). ((‵ (flft κ″ q″) ⊛ ‵ (flft κ‴ q‴) ⊛ ‵ ftrue) ⊛ ‵ (u64 .own k (w₆ ∷ [])))
-        ⊛ raw (ensured 𝓤 H A hand-over.ended (hand-over.clauses 𝓤 H A at-mem run) (κ″, (κ‴, tt))
+        ⊛ raw (ensured 𝓤 H A tell-limits.ended (tell-limits.clauses 𝓤 H A at-mem run) (κ″, (κ‴, tt))
         (h-args n (is-n .1) cause (is-c .1) on (us .1 .1 .1 .0)) tt k)))) (id⊢ 𝓤 _) $ await ! tt $ pick ! (λ k.
         split ! $ move ! (1 ∷ []) $
-        use1 W (some (λ (hs : LastH). ‵ (lasts hand-over.ended (κ″, (κ‴, tt)) (h-args n (is-n .1) cause (is-c .1) on (us .1 .1 .1 .0)) hs)
+        use1 W (some (λ (hs : LastH). ‵ (lasts tell-limits.ended (κ″, (κ‴, tt)) (h-args n (is-n .1) cause (is-c .1) on (us .1 .1 .1 .0)) hs)
         ⊛ raw (fact 𝓤 (TellsOver cause n on (us .1 .1 .1 .0) f₀ (hs .1 .1 .1 .1 .0) k)))) (id⊢ 𝓤 _) $ pick ! (λ hs.
         split ! $ move ! (1 ∷ []) $ heard ! (TellsOver cause n on (us .1 .1 .1 .0) f₀ (hs .1 .1 .1 .1 .0) k) (λ e₆. fsplit ! $ forgo ! $ fsplit ! $ forgo ! $
         fsplit ! $ forgo ! $ fsplit ! $ fsplit ! $ move ! (1 ∷ []) $ feqL ! (λ lw. move ! (1 ∷ []) $ fsplit ! $ fsplit ! $ move ! (1 ∷ []) $ feqL ! (λ ll.
@@ -515,7 +515,7 @@ module _ {M : Type 1} (𝓤 : URA M) (H : Heap 𝓤) (A : Atoms 𝓤) (W : Given
 module _ {M : Type 1} (𝓤 : URA M) (H : Heap 𝓤) (A : Atoms 𝓤) (W : Given 𝓤 H A) (mem : Memory → SProp 𝓤) (run : Routine → Fun 𝓤) (𝓣 : Tables 𝓤 H)
     (known-size : Triple 𝓤 (𝓣 .C #register·size-in) (Size 𝓤 H A mem run)) (known-judge : Triple 𝓤 (𝓣 .C #offsets·judge) (Judge 𝓤 H A mem run))
     (known-begin : Triple 𝓤 (𝓣 .C #offsets·begin) (Begin 𝓤 H A mem run)) (known-rounds : Triple 𝓤 (𝓣 .C #offsets·rounds-of) (Rounds 𝓤 H A mem run))
-    (known-settle : Triple 𝓤 (𝓣 .C #offsets·settle) (Settle 𝓤 H A mem run)) (known-hand : Triple 𝓤 (𝓣 .C #offsets·hand-over) (Hand 𝓤 H A mem run)) where
+    (known-settle : Triple 𝓤 (𝓣 .C #offsets·settle) (Settle 𝓤 H A mem run)) (known-hand : Triple 𝓤 (𝓣 .C #offsets·tell-limits) (Hand 𝓤 H A mem run)) where
   offsets-walks : Walks 𝓤 H A offsets.ended stayed (WpFn 𝓤 H (𝓣 .C) (𝓣 .Λ) code.function) (offsets.clauses 𝓤 H A mem run)
   offsets-walks =
       walked 𝓤 H A offsets.ended stayed (offsets.clauses 𝓤 H A mem run) (WpFn 𝓤 H (𝓣 .C) (𝓣 .Λ) code.function)
@@ -562,5 +562,5 @@ offsets-spec 𝓤 H 𝓜 𝓖 𝓡 =
     (cited 𝓤 H (Rounds 𝓤 H (𝓖 .A) (𝓜 .mem) (𝓡 .run)) 𝓜 𝓡 code.env #offsets·rounds-of
     rounds-of-def.routine code.calls-offsets·rounds-of (rounds-of-thm.met 𝓤 H 𝓜 𝓖 𝓡))
     (cited 𝓤 H (Settle 𝓤 H (𝓖 .A) (𝓜 .mem) (𝓡 .run)) 𝓜 𝓡 code.env #offsets·settle settle-def.routine code.calls-offsets·settle (settle-thm.met 𝓤 H 𝓜 𝓖 𝓡))
-    (cited 𝓤 H (Hand 𝓤 H (𝓖 .A) (𝓜 .mem) (𝓡 .run)) 𝓜 𝓡 code.env #offsets·hand-over
-    hand-over-def.routine code.calls-offsets·hand-over (hand-over-thm.met 𝓤 H 𝓜 𝓖 𝓡)))
+    (cited 𝓤 H (Hand 𝓤 H (𝓖 .A) (𝓜 .mem) (𝓡 .run)) 𝓜 𝓡 code.env #offsets·tell-limits
+    tell-limits-def.routine code.calls-offsets·tell-limits (tell-limits-thm.met 𝓤 H 𝓜 𝓖 𝓡)))

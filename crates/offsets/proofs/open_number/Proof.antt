@@ -5,9 +5,6 @@ use Rattle.book.specs.Causes.{number}
 use Rattle.offsets.proofs.open_number.Statement.{statement}
 use Rattle.offsets.proofs.open_number.Tie as tie
 
-is-register-requires : tie.Need-is-register-requires
-is-register-requires c κs = search needs
-
 returns : tie.Need-returns
 returns c =
     let k = c .before .is-register .ensures .sure (c .if1 .taken) in
@@ -18,4 +15,4 @@ unfolding number
 returns-2 c = record { kept = λ r w. absurd (c .before .is-register .ensures .none (c .if1 .left) (r, w)); foreign = λ _. refl }
 
 pub open-number-spec : {M : Type 1} → statement M
-open-number-spec = tie.close (tie.spec is-register-requires returns returns-2)
+open-number-spec = tie.close (tie.spec (λ c κs. search needs) returns returns-2)

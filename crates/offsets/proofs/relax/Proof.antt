@@ -7,45 +7,30 @@ use Rattle.offsets.proofs.LowerLaws.{all-three}
 use Rattle.offsets.proofs.relax.Statement.{statement}
 use Rattle.offsets.proofs.relax.Tie as tie
 
--- src/lib.rt:61:14
 cast-up : tie.Need-cast-up
 cast-up c = wide-fits (c .args .most) (c .fits .most)
 
--- src/lib.rt:62:18
 cast-down : tie.Need-cast-down
 cast-down c = wide-fits (c .args .least) (c .fits .least)
 
--- src/lib.rt:62:16
 sub-down : tie.Need-sub-down
 sub-down c = minus-fits (c .args .least) (c .fits .least)
 
--- src/lib.rt:64:13
-mul-m : tie.Need-mul-m
-mul-m c = search needs
-
--- src/lib.rt:65:9
 third-requires : tie.Need-third-requires
 third-requires c κs =
     let a = c .before in
     ((omega arith, (omega arith, omega arith)), (wide-low (a .args .most) (a .fits .most), minus-low (a .args .least) (a .fits .least)))
 
--- src/lib.rt:66:9
 third-requires-2 : tie.Need-third-requires-2
 third-requires-2 c κs =
     let a = c .before .before .before .before in
     ((omega arith, (omega arith, omega arith)), (wide-low (a .args .most) (a .fits .most), minus-low (a .args .least) (a .fits .least)))
 
--- src/lib.rt:67:5
 third-requires-3 : tie.Need-third-requires-3
 third-requires-3 c κs =
     let a = c .before .before .before .before .before .before .before in
     ((omega arith, (omega arith, omega arith)), (wide-low (a .args .most) (a .fits .most), minus-low (a .args .least) (a .fits .least)))
 
--- src/lib.rt:56:1
-same-length : tie.Need-same-length
-same-length c = search needs
-
--- src/lib.rt:56:1
 returns : tie.Need-returns
 returns c =
     let after-third2 = c .before .before .before .before in
@@ -61,9 +46,9 @@ relax-spec =
     cast-up
     cast-down
     sub-down
-    mul-m
+    (λ c. search needs)
     third-requires
     third-requires-2
     third-requires-3
-    same-length
+    (λ c. search needs)
     returns)

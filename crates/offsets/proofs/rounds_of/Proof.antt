@@ -4,17 +4,11 @@ use borrow.Author.Needs.{needs}
 use Rattle.offsets.proofs.rounds_of.Statement.{statement}
 use Rattle.offsets.proofs.rounds_of.Tie as tie
 
--- src/lib.rt:385:9
 returns : tie.Need-returns
 returns c = rounds-none (c .before .args .cause) (c .before .args .n) (c .if1 .taken)
 
--- src/lib.rt:387:5
-add-result : tie.Need-add-result
-add-result c = search needs
-
--- src/lib.rt:381:1
 returns-2 : tie.Need-returns-2
 returns-2 c = rounds-all (c .before .args .cause) (c .before .args .n) (c .if1 .left)
 
 pub rounds-of-spec : {M : Type 1} → statement M
-rounds-of-spec = tie.close (tie.spec returns add-result returns-2)
+rounds-of-spec = tie.close (tie.spec returns (λ c. search needs) returns-2)

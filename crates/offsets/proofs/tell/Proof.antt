@@ -16,51 +16,18 @@ Inv-loop n d list₀ x₀ list x = (x ≤ n) × ((length list ≡ length list₀
 abbrev μ-loop : tie.MeasureT-loop
 μ-loop n d list₀ x₀ list x = n - x
 
--- src/lib.rt:180:5
 loop-holds : tie.Need-loop-holds Inv-loop μ-loop
 loop-holds c = (omega arith, (refl, (told-none (c .args .n) (c .args .d .now) (c .args .list .now), refl)))
 
--- src/lib.rt:181:13
 least-word-requires : tie.Need-least-word-requires Inv-loop μ-loop
 least-word-requires c κs = let p = c .before .before .pre in (p .0, (p .1 .0, c .loop-test .taken))
 
--- src/lib.rt:182:13
 most-word-requires : tie.Need-most-word-requires Inv-loop μ-loop
 most-word-requires c κs = let p = c .before .before .before .pre in (p .0, (p .1 .0, c .before .loop-test .taken))
 
--- src/lib.rt:183:17
-mul-i : tie.Need-mul-i Inv-loop μ-loop
-mul-i c = omega arith
-
--- src/lib.rt:184:9
-mul-a : tie.Need-mul-a Inv-loop μ-loop
-mul-a c = omega arith
-
--- src/lib.rt:184:9
-slice-set-from-a : tie.Need-slice-set-from-a Inv-loop μ-loop
-slice-set-from-a c = omega arith
-
--- src/lib.rt:185:14
-add-b : tie.Need-add-b Inv-loop μ-loop
-add-b c = omega arith
-
--- src/lib.rt:185:9
-mul-b : tie.Need-mul-b Inv-loop μ-loop
-mul-b c = omega arith
-
--- src/lib.rt:185:9
 slice-set-from-b : tie.Need-slice-set-from-b Inv-loop μ-loop
 slice-set-from-b c = simp length-set (omega arith)
 
--- src/lib.rt:186:9
-add-x : tie.Need-add-x Inv-loop μ-loop
-add-x c = omega arith
-
--- src/lib.rt:180:5
-loop-less : tie.Need-loop-less Inv-loop μ-loop
-loop-less c = omega arith
-
--- src/lib.rt:180:5
 loop-again : tie.Need-loop-again Inv-loop μ-loop
 loop-again c =
     let l = c .before .before .before .loop in
@@ -77,11 +44,6 @@ loop-again c =
       ),
     )
 
--- src/lib.rt:175:1
-same-length : tie.Need-same-length Inv-loop μ-loop
-same-length c = search needs
-
--- src/lib.rt:175:1
 returns : tie.Need-returns Inv-loop μ-loop
 returns c =
     let l = c .before .loop in
@@ -96,14 +58,9 @@ tell-spec =
     loop-holds
     least-word-requires
     most-word-requires
-    mul-i
-    mul-a
-    slice-set-from-a
-    add-b
-    mul-b
+    (λ c. omega arith) (λ c. omega arith) (λ c. omega arith) (λ c. omega arith) (λ c. omega arith)
     slice-set-from-b
-    add-x
-    loop-less
+    (λ c. omega arith) (λ c. omega arith)
     loop-again
-    same-length
+    (λ c. search needs)
     returns)

@@ -13,17 +13,11 @@ returns-2 c =
     let a = c .before .before .before .args in
     no-second (a .n) (a .state .now) (a .first) (a .second) (a .least) (a .most) (c .before .if1 .left) (c .if2 .taken)
 
-is-withdrawn-requires : tie.Need-is-withdrawn-requires
-is-withdrawn-requires c κs = search needs
-
 returns-3 : tie.Need-returns-3
 returns-3 c =
     let a = c .before .before .before .before .before .args in
     first-withdrawn (a .n) (a .state .now) (a .first) (a .second) (a .least) (a .most) (c .before .before .before .if1 .left) (c .before .before .if2 .left)
     (sym (c .before .is-withdrawn .ensures) ∙ c .if3 .taken)
-
-is-withdrawn-requires-2 : tie.Need-is-withdrawn-requires-2
-is-withdrawn-requires-2 c κs = search needs
 
 returns-4 : tie.Need-returns-4
 returns-4 c =
@@ -82,9 +76,9 @@ tie-number-spec =
     (tie.spec
     returns
     returns-2
-    is-withdrawn-requires
+    (λ c κs. search needs)
     returns-3
-    is-withdrawn-requires-2
+    (λ c κs. search needs)
     returns-4
     returns-5
     returns-6

@@ -34,9 +34,6 @@ add-cell c = let s = c .before .before .before .before in omega (arith, s .pre .
 add-if1 : tie.Need-add-if1 Inv-loop μ-loop
 add-if1 c = let s = c .before .before .before .before in omega (arith, s .pre .0, c .loop-test .taken)
 
-sub-if1 : tie.Need-sub-if1 Inv-loop μ-loop
-sub-if1 c = omega arith
-
 shared-slice-read-if1 : tie.Need-shared-slice-read-if1 Inv-loop μ-loop
 shared-slice-read-if1 c = let s = c .before .before .before .before .before in omega (arith, s .pre .0, c .before .loop-test .taken)
 
@@ -54,9 +51,6 @@ returns c = let s = c .before .before .before .before .before .before in
 
 cell-at-requires : tie.Need-cell-at-requires Inv-loop μ-loop
 cell-at-requires c κs = let s = c .before .before .before .before .before .before in omega (arith, s .pre .0, c .before .before .loop-test .taken)
-
-mul-words : tie.Need-mul-words Inv-loop μ-loop
-mul-words c = omega arith
 
 slice-write-words : tie.Need-slice-write-words Inv-loop μ-loop
 slice-write-words c =
@@ -109,12 +103,12 @@ cells-at-spec =
     mul-cell
     add-cell
     add-if1
-    sub-if1
+    (λ c. omega arith)
     shared-slice-read-if1
     same-length
     returns
     cell-at-requires
-    mul-words
+    (λ c. omega arith)
     slice-write-words
     add-k
     loop-less

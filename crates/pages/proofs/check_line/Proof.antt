@@ -27,15 +27,6 @@ words c =
     let n : q .result ≤ length (q .last .1 .1 .0) = omega (arith, q .ensures .0) in
     (n, q .ensures .1, length-take-le (q .result) (q .last .1 .1 .0) n)
 
-add-t10 : tie.Need-add-t10
-add-t10 c = search needs
-
-mul-is-head : tie.Need-mul-is-head
-mul-is-head c = search needs
-
-is-head-requires : tie.Need-is-head-requires
-is-head-requires c κs = search needs
-
 returns : tie.Need-returns
 returns c = let s = c .before .before .before .before .before in
     head-stands (now (s .args .text)) (now (s .args .pages)) (s .args .i) (s .args .lines) (s .args .low)
@@ -47,18 +38,6 @@ returns-2 c = let s = c .before .before .before .before .before in
     head-falls (now (s .args .text)) (now (s .args .pages)) (s .args .i) (s .args .lines)
     (s .args .low) (c .before .before .if1 .taken) (λ e. not-both (c .before .is-head .ensures .1 e) f)
 
-mul-cells-at : tie.Need-mul-cells-at
-mul-cells-at c = search needs
-
-slice-aggregate-cells-at : tie.Need-slice-aggregate-cells-at
-slice-aggregate-cells-at c = search needs
-
-cells-at-requires : tie.Need-cells-at-requires
-cells-at-requires c κs = search needs
-
-least-pairs-requires : tie.Need-least-pairs-requires
-least-pairs-requires c κs = search needs
-
 returns-3 : tie.Need-returns-3
 returns-3 c = let s = c .before .before .before .before .before .before .before .before in
     let w = words (c .before .before .before) in
@@ -66,12 +45,6 @@ returns-3 c = let s = c .before .before .before .before .before .before .before 
     short-falls (now (s .args .text)) (now (s .args .pages)) (s .args .i) (s .args .lines)
     (s .args .low) (omega (arith, c .before .before .before .before .before .if1 .left)) _ (w .1)
     (omega (arith, w .2, l .1, c .if3 .taken)) (l .2 (omega (arith, c .if3 .taken)))
-
-slice-aggregate-rising : tie.Need-slice-aggregate-rising
-slice-aggregate-rising c = search needs
-
-rising-requires : tie.Need-rising-requires
-rising-requires c κs = search needs
 
 returns-4 : tie.Need-returns-4
 returns-4 c =
@@ -81,12 +54,6 @@ returns-4 c =
     rising-falls (now (s .args .text)) (now (s .args .pages)) (s .args .i) (s .args .lines)
     (s .args .low) (omega (arith, after-cells-at .before .before .if1 .left)) _ (w .1)
     (c .before .rising .ensures) (c .if4 .taken)
-
-slice-aggregate-is-pair-line : tie.Need-slice-aggregate-is-pair-line
-slice-aggregate-is-pair-line c = search needs
-
-mul-is-pair-line : tie.Need-mul-is-pair-line
-mul-is-pair-line c = search needs
 
 is-pair-line-requires : tie.Need-is-pair-line-requires
 is-pair-line-requires c κs =
@@ -129,21 +96,14 @@ pub check-line-spec : {M : Type 1} → statement M
 check-line-spec =
     tie.close
     (tie.spec
-    add-t10
-    mul-is-head
-    is-head-requires
+    (λ c. search needs) (λ c. search needs) (λ c κs. search needs)
     returns
     returns-2
-    mul-cells-at
-    slice-aggregate-cells-at
-    cells-at-requires
-    least-pairs-requires
+    (λ c. search needs) (λ c. search needs) (λ c κs. search needs) (λ c κs. search needs)
     returns-3
-    slice-aggregate-rising
-    rising-requires
+    (λ c. search needs) (λ c κs. search needs)
     returns-4
-    slice-aggregate-is-pair-line
-    mul-is-pair-line
+    (λ c. search needs) (λ c. search needs)
     is-pair-line-requires
     returns-5
     returns-6)

@@ -15,14 +15,8 @@ Inv-loop k rest₀ count₀ rest count = count + length (decimal rest) ≡ lengt
 abbrev μ-loop : tie.MeasureT-loop
 μ-loop k rest₀ count₀ rest count = rest
 
-loop-holds : tie.Need-loop-holds Inv-loop μ-loop
-loop-holds c = omega arith
-
 add-count : tie.Need-add-count Inv-loop μ-loop
 add-count c = omega (arith, length-decimal 19 (c .before .before .args .k) (omega arith), c .before .loop .inv)
-
-loop-less : tie.Need-loop-less Inv-loop μ-loop
-loop-less c = omega arith
 
 loop-again : tie.Need-loop-again Inv-loop μ-loop
 loop-again c = omega (arith, c .before .loop .inv, length-decimal-more (c .before .loop .rest) (c .loop-test .taken))
@@ -32,4 +26,4 @@ returns c = omega (arith, c .before .loop .inv, length-decimal-small (c .before 
 
 pub figures-spec : {M : Type 1} → statement M
 figures-spec =
-    tie.close (tie.spec Inv-loop μ-loop loop-holds add-count loop-less loop-again returns)
+    tie.close (tie.spec Inv-loop μ-loop (λ c. omega arith) add-count (λ c. omega arith) loop-again returns)

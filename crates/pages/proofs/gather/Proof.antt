@@ -6,34 +6,33 @@ use Prim.Native.Nat.{ℕ, _-_, _≤_, _<_}
 use native.Mathlib.Omega.{arith}
 use denote.Ref.{now}
 use lib.ListN.{length, take, getD, length-set}
-use Rattle.k2.specs.Bits.{bitAt}
-use Rattle.pages.specs.Lines.{pairWords, ahead}
+use Rattle.pages.specs.Lines.{pairWords, held, ahead}
 use Rattle.pages.proofs.GatherLaws.{ahead-gap, ahead-end, gathered-more, small-more}
 use Rattle.pages.proofs.gather.Statement.{statement}
 use Rattle.pages.proofs.gather.Tie as tie
 
 abbrev Inv-loop : tie.InvT-loop
-Inv-loop rows from words₀ count₀ place₀ words count place =
+Inv-loop cells masks n from words₀ count₀ place₀ words count place =
     (count ≤ 6) × (place ≤ pairWords) × (length words ≡ length words₀) × ((i : ℕ) → i < count → getD words i 0 < pairWords)
-    × (ahead (bitAt rows) from (pairWords - from) ≡ take count words ++ ahead (bitAt rows) place (pairWords - place))
+    × (ahead (held cells masks n) from (pairWords - from) ≡ take count words ++ ahead (held cells masks n) place (pairWords - place))
 
 abbrev μ-loop : tie.MeasureT-loop
-μ-loop rows from words₀ count₀ place₀ words count place = 6 - count
+μ-loop cells masks n from words₀ count₀ place₀ words count place = 6 - count
 
 loop-holds : tie.Need-loop-holds Inv-loop μ-loop
-loop-holds c = let s = c .before .before in (omega arith, s .pre .0, refl, λ i h. absurd (omega arith), refl)
+loop-holds c = let s = c .before .before .before in (omega arith, s .pre .0, refl, λ i h. absurd (omega arith), refl)
 
-next-requires : tie.Need-next-requires Inv-loop μ-loop
-next-requires c κs = c .before .loop .inv .1
+next-pair-requires : tie.Need-next-pair-requires Inv-loop μ-loop
+next-pair-requires c κs = let s = c .before .before .before .before .before in (s .pre .2, s .pre .3, c .before .loop .inv .1)
 
 same-length : tie.Need-same-length Inv-loop μ-loop
 same-length c = c .before .before .before .loop .inv .2
 
 returns : tie.Need-returns Inv-loop μ-loop
-returns c = let s = c .before .before .before .before .before .before in
+returns c = let s = c .before .before .before .before .before .before .before in
     let here = c .before .before .before .loop in
-    let f = bitAt (now (s .args .rows)) in
-    let n = c .before .next in
+    let f = held (now (s .args .cells)) (now (s .args .masks)) (s .args .n) in
+    let n = c .before .next-pair in
     let e : n .result ≡ pairWords = c .if1 .taken in
     let z : ahead f (n .result) (pairWords - n .result) ≡ [] = ap (λ (p : ℕ). ahead f p (pairWords - p)) e ∙ ahead-end f in
     record {
@@ -47,30 +46,27 @@ returns c = let s = c .before .before .before .before .before .before in
     }
 
 cast-words : tie.Need-cast-words Inv-loop μ-loop
-cast-words c = omega (arith, c .before .next .ensures .high)
-
-mul-words : tie.Need-mul-words Inv-loop μ-loop
-mul-words c = omega arith
+cast-words c = omega (arith, c .before .next-pair .ensures .high)
 
 slice-write-words : tie.Need-slice-write-words Inv-loop μ-loop
 slice-write-words c =
     let at-loop = c .before .before .before in
-    let s = at-loop .before .before .before in omega (arith, s .pre .1, at-loop .loop .inv .2, c .before .before .loop-test .taken)
+    let s = c .before .before .before .before .before .before .before in omega (arith, s .pre .1, at-loop .loop .inv .2, c .before .before .loop-test .taken)
 
 add-count : tie.Need-add-count Inv-loop μ-loop
 add-count c = omega (arith, c .before .before .loop-test .taken)
 
 add-place : tie.Need-add-place Inv-loop μ-loop
-add-place c = omega (arith, c .before .next .ensures .high)
+add-place c = omega (arith, c .before .next-pair .ensures .high)
 
 loop-less : tie.Need-loop-less Inv-loop μ-loop
 loop-less c = omega (arith, c .before .before .loop-test .taken)
 
 loop-again : tie.Need-loop-again Inv-loop μ-loop
-loop-again c = let s = c .before .before .before .before .before .before in
+loop-again c = let s = c .before .before .before .before .before .before .before in
     let here = c .before .before .before .loop in
-    let f = bitAt (now (s .args .rows)) in
-    let n = c .before .next in
+    let f = held (now (s .args .cells)) (now (s .args .masks)) (s .args .n) in
+    let n = c .before .next-pair in
     let l : n .result < pairWords = omega (arith, n .ensures .high, c .if1 .left) in
     let k : here .count < length (here .words) = omega (arith, s .pre .1, here .inv .2, c .before .before .loop-test .taken) in (
       omega (arith, c .before .before .loop-test .taken),
@@ -95,11 +91,11 @@ gather-spec =
     Inv-loop
     μ-loop
     loop-holds
-    next-requires
+    next-pair-requires
     same-length
     returns
     cast-words
-    mul-words
+    (λ c. omega arith)
     slice-write-words
     add-count
     add-place

@@ -22,9 +22,6 @@ Inv-loop text pages lines count₀ low₀ i₀ count low i =
 abbrev μ-loop : tie.MeasureT-loop
 μ-loop text pages lines count₀ low₀ i₀ count low i = lines - i
 
-mul-if1 : tie.Need-mul-if1 Inv-loop μ-loop
-mul-if1 c = omega arith
-
 returns : tie.Need-returns Inv-loop μ-loop
 returns c = let s = c .before .before .before in bad-size (now (s .args .text)) (now (s .args .pages)) (c .if1 .taken)
 
@@ -136,7 +133,7 @@ judge-spec =
     (tie.spec
     Inv-loop
     μ-loop
-    mul-if1
+    (λ c. omega arith)
     returns
     returns-2
     loop-holds

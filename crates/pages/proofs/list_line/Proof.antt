@@ -36,9 +36,6 @@ put-words-requires c κs = let s = c .before .before .before .before .before .be
     q .ensures .1 ∙ sym (words-pairs (now (s .args .pages)) (s .args .i) (omega (arith, c .before .before .before .before .before .if1 .left))) in
     (omega (arith, q .ensures .0), omega (arith, s .pre .1, ap length e))
 
-same-length : tie.Need-same-length
-same-length c = search needs
-
 returns-2 : tie.Need-returns-2
 returns-2 c =
     let after-cells-at = c .before .before .before .before .before .before in
@@ -58,5 +55,5 @@ list-line-spec =
     cells-at-requires
     slice-aggregate-put-words
     put-words-requires
-    same-length
+    (λ c. search needs)
     returns-2)

@@ -21,12 +21,9 @@ put-record-requires-2 c κs =
     let k : length (p .last .1 .0) ≡ length (now (s .args .out)) = p .kept .1 .0 in
     (omega arith, omega (arith, p .ensures .place, length-record (s .args .w / 1024) (omega (arith, s .pre .0)), s .pre .1))
 
-same-length : tie.Need-same-length
-same-length c = search needs
-
 returns : tie.Need-returns
 unfolding pairCell
 returns c = wrote-then (c .before .before .before .before .before .before .put-record .ensures) (c .before .before .put-record2 .ensures)
 
 pub put-cell-spec : {M : Type 1} → statement M
-put-cell-spec = tie.close (tie.spec put-record-requires put-record-requires-2 same-length returns)
+put-cell-spec = tie.close (tie.spec put-record-requires put-record-requires-2 (λ c. search needs) returns)

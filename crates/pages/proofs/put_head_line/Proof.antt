@@ -12,9 +12,6 @@ use Rattle.pages.proofs.WritingLaws.{wrote-head}
 use Rattle.pages.proofs.put_head_line.Statement.{statement}
 use Rattle.pages.proofs.put_head_line.Tie as tie
 
-shown-bytes-requires : tie.Need-shown-bytes-requires
-shown-bytes-requires c κs = search needs
-
 slice-aggregate-put-text : tie.Need-slice-aggregate-put-text
 slice-aggregate-put-text c =
     let n = c .before .shown-bytes in
@@ -81,9 +78,6 @@ put-byte-requires c κs =
     let k : length (p .last .1 .1 .0) ≡ length (after-put-blanks .put-blanks .last .1 .0) = p .kept .1 .1 .0 in
     omega (arith, b .0, b .1, p .ensures .place, length-right 12 (s .args .page + 1) (page-figures (s .args .page) (s .pre .0)), s .pre .1)
 
-same-length : tie.Need-same-length
-same-length c = search needs
-
 returns : tie.Need-returns
 returns c =
     let after-put-right = c .before .before .before .before .before .before in
@@ -99,7 +93,7 @@ pub put-head-line-spec : {M : Type 1} → statement M
 put-head-line-spec =
     tie.close
     (tie.spec
-    shown-bytes-requires
+    (λ c κs. search needs)
     slice-aggregate-put-text
     put-text-requires
     sub-put-blanks
@@ -107,5 +101,5 @@ put-head-line-spec =
     add-put-right
     put-right-requires
     put-byte-requires
-    same-length
+    (λ c. search needs)
     returns)

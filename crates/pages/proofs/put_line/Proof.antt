@@ -3,68 +3,56 @@ use mathlib.Core.Path.{_≡_, refl, sym}
 use native.Mathlib.Omega.{arith}
 use denote.Ref.{now}
 use lib.ListN.{length}
-use Rattle.k2.specs.Bits.{bitAt}
+use Rattle.pages.specs.Lines.{held}
 use Rattle.pages.proofs.LayoutLaws.{laid-head, laid-pairs}
 use borrow.Author.Needs.{needs}
 use Rattle.pages.proofs.put_line.Statement.{statement}
 use Rattle.pages.proofs.put_line.Tie as tie
 
-mul-put-head-line : tie.Need-mul-put-head-line
-mul-put-head-line c = search needs
-
 put-head-line-requires : tie.Need-put-head-line-requires
-put-head-line-requires c κs = let s = c .before .before .before .before .before in (omega (arith, s .pre .0), omega (arith, s .pre .2))
-
-same-length : tie.Need-same-length
-same-length c = search needs
+put-head-line-requires c κs = let s = c .before .before .before .before .before .before in (omega (arith, s .pre .0), omega (arith, s .pre .2))
 
 returns : tie.Need-returns
-returns c = let s = c .before .before .before .before .before .before .before .before in
-    laid-head (bitAt (now (s .args .rows))) (now (s .args .text)) (s .args .i) (s .args .place)
+returns c = let s = c .before .before .before .before .before .before .before .before .before in
+    laid-head (held (now (s .args .cells)) (now (s .args .masks)) (s .args .n)) (now (s .args .text)) (s .args .i) (s .args .place)
     (omega (arith, c .before .before .before .before .if1 .taken)) (omega (arith, s .pre .0)) (s .pre .1) (c .before .before .put-head-line .ensures)
 
 slice-aggregate-gather : tie.Need-slice-aggregate-gather
 slice-aggregate-gather c = refl
 
 gather-requires : tie.Need-gather-requires
-gather-requires c κs = let s = c .before .before .before .before .before in (s .pre .1, refl)
+gather-requires c κs = let s = c .before .before .before .before .before .before in (s .pre .1, refl, s .pre .3, s .pre .4)
 
 slice-aggregate-put-pair-line : tie.Need-slice-aggregate-put-pair-line
-slice-aggregate-put-pair-line c = let g = c .before .before .gather in let k : length (g .last .1 .1 .0) ≡ 6 = g .kept .1 .1 .0 in sym k
-
-mul-put-pair-line : tie.Need-mul-put-pair-line
-mul-put-pair-line c = search needs
+slice-aggregate-put-pair-line c = let g = c .before .before .gather in let k : length (g .last .1 .1 .1 .1 .0) ≡ 6 = g .kept .1 .1 .1 .1 .0 in sym k
 
 put-pair-line-requires : tie.Need-put-pair-line-requires
-put-pair-line-requires c κs = let s = c .before .before .before .before .before .before .before .before .before in
+put-pair-line-requires c κs = let s = c .before .before .before .before .before .before .before .before .before .before in
     let g = c .before .before .before .gather in
-    let k : length (g .last .1 .1 .0) ≡ 6 = g .kept .1 .1 .0 in
+    let k : length (g .last .1 .1 .1 .1 .0) ≡ 6 = g .kept .1 .1 .1 .1 .0 in
     (g .ensures .few, omega (arith, g .ensures .few), g .ensures .small, omega (arith, s .pre .2))
-
-same-length-2 : tie.Need-same-length-2
-same-length-2 c = search needs
 
 returns-2 : tie.Need-returns-2
 returns-2 c =
     let after-gather = c .before .before .before .before .before .before in
-    let s = after-gather .before .before .before .before .before .before in
+    let s = c .before .before .before .before .before .before .before .before .before .before .before .before .before in
     let g = after-gather .gather in
-    let k : length (g .last .1 .1 .0) ≡ 6 = g .kept .1 .1 .0 in
-    laid-pairs (bitAt (now (s .args .rows))) (now (s .args .text)) (s .args .i) (s .args .place)
+    let k : length (g .last .1 .1 .1 .1 .0) ≡ 6 = g .kept .1 .1 .1 .1 .0 in
+    laid-pairs (held (now (s .args .cells)) (now (s .args .masks)) (s .args .n)) (now (s .args .text)) (s .args .i) (s .args .place)
     (omega (arith, after-gather .before .before .if1 .left)) k (g .ensures) (c .before .before .put-pair-line .ensures)
 
 pub put-line-spec : {M : Type 1} → statement M
 put-line-spec =
     tie.close
     (tie.spec
-    mul-put-head-line
+    (λ c. search needs)
     put-head-line-requires
-    same-length
+    (λ c. search needs)
     returns
     slice-aggregate-gather
     gather-requires
     slice-aggregate-put-pair-line
-    mul-put-pair-line
+    (λ c. search needs)
     put-pair-line-requires
-    same-length-2
+    (λ c. search needs)
     returns-2)

@@ -26,9 +26,6 @@ loop-holds : tie.Need-loop-holds Inv-loop μ-loop
 unfolding lines
 loop-holds c = let s = c .before .before in (omega arith, refl, omega arith, wrote-none (s .args .at) (now (s .args .out)) (omega (arith, s .pre .3)))
 
-mul-put-cell : tie.Need-mul-put-cell Inv-loop μ-loop
-mul-put-cell c = omega arith
-
 shared-slice-read-put-cell : tie.Need-shared-slice-read-put-cell Inv-loop μ-loop
 shared-slice-read-put-cell c = let s = c .before .before .before .before .before in omega (arith, s .pre .1)
 
@@ -125,7 +122,7 @@ put-pair-line-spec =
     Inv-loop
     μ-loop
     loop-holds
-    mul-put-cell
+    (λ c. omega arith)
     shared-slice-read-put-cell
     put-cell-requires
     add-i

@@ -20,12 +20,9 @@ put-byte-requires c κs =
     let k : length (p .last .1 .1 .0) ≡ length (now (s .args .out)) = p .kept .1 .1 .0 in
     omega (arith, p .ensures .place, length-right 5 (s .args .x) (record-figures (s .args .x) (s .pre .0)), s .pre .1)
 
-same-length : tie.Need-same-length
-same-length c = search needs
-
 returns : tie.Need-returns
 unfolding recordCell
 returns c = wrote-then (c .before .before .before .before .before .before .put-right .ensures) (c .before .before .put-byte .ensures)
 
 pub put-record-spec : {M : Type 1} → statement M
-put-record-spec = tie.close (tie.spec put-right-requires put-byte-requires same-length returns)
+put-record-spec = tie.close (tie.spec put-right-requires put-byte-requires (λ c. search needs) returns)

@@ -11,9 +11,6 @@ use Rattle.pages.specs.Pages.{blanks, rightAligned}
 use Rattle.pages.proofs.put_right.Statement.{statement}
 use Rattle.pages.proofs.put_right.Tie as tie
 
-figures-requires : tie.Need-figures-requires
-figures-requires c κs = search needs
-
 sub-put-blanks : tie.Need-sub-put-blanks
 sub-put-blanks c = omega (arith, c .figures .ensures, c .before .before .pre .0)
 
@@ -28,9 +25,6 @@ put-decimal-requires c κs =
     let k : length (p .last .1 .0) ≡ length (now (s .args .out)) = p .kept .1 .0 in
     omega (arith, f .ensures, p .ensures .place, length-replicate (s .args .width - f .result) space, s .pre .0, s .pre .1)
 
-same-length : tie.Need-same-length
-same-length c = search needs
-
 returns : tie.Need-returns
 unfolding rightAligned
 returns c =
@@ -41,4 +35,4 @@ returns c =
     wrote-then before (c .before .before .put-decimal .ensures)
 
 pub put-right-spec : {M : Type 1} → statement M
-put-right-spec = tie.close (tie.spec figures-requires sub-put-blanks put-blanks-requires put-decimal-requires same-length returns)
+put-right-spec = tie.close (tie.spec (λ c κs. search needs) sub-put-blanks put-blanks-requires put-decimal-requires (λ c. search needs) returns)

@@ -20,17 +20,11 @@ abbrev μ-loop : tie.MeasureT-loop
 loop-holds : tie.Need-loop-holds Inv-loop μ-loop
 loop-holds c = let s = c in (omega arith, refl, rw add-zero (wrote-none (s .args .at) (now (s .args .list)) (omega (arith, s .pre .1))))
 
-mul-list : tie.Need-mul-list Inv-loop μ-loop
-mul-list c = omega arith
-
 shared-slice-read-list : tie.Need-shared-slice-read-list Inv-loop μ-loop
 shared-slice-read-list c = let s = c .before .before .before in omega (arith, s .pre .0, c .before .loop-test .taken)
 
 add-list : tie.Need-add-list Inv-loop μ-loop
 add-list c = let s = c .before .before .before in omega (arith, s .pre .1, c .before .loop-test .taken)
-
-mul-list-2 : tie.Need-mul-list-2 Inv-loop μ-loop
-mul-list-2 c = omega arith
 
 slice-write-list : tie.Need-slice-write-list Inv-loop μ-loop
 slice-write-list c = let s = c .before .before .before in omega (arith, s .pre .1, c .before .before .loop .inv .1, c .before .loop-test .taken)
@@ -70,10 +64,10 @@ put-words-spec =
     Inv-loop
     μ-loop
     loop-holds
-    mul-list
+    (λ c. omega arith)
     shared-slice-read-list
     add-list
-    mul-list-2
+    (λ c. omega arith)
     slice-write-list
     add-i
     loop-less

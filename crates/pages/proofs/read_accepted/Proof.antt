@@ -7,15 +7,6 @@ use borrow.Author.Needs.{needs}
 use Rattle.pages.proofs.read_accepted.Statement.{statement}
 use Rattle.pages.proofs.read_accepted.Tie as tie
 
-judge-requires : tie.Need-judge-requires
-judge-requires c κs = search needs
-
-enum-told : tie.Need-enum-told
-enum-told c = search needs
-
-enum-known-judgement : tie.Need-enum-known-judgement
-enum-known-judgement c = search needs
-
 returns : tie.Need-returns
 returns c = let s = c .before .before .before .before .before .before .before .before in
     λ e v. reads-short (now (s .args .text)) (now (s .args .pages)) (now (s .args .list)) e v
@@ -31,9 +22,6 @@ returns-2 : tie.Need-returns-2
 returns-2 c = let s = c .before .before .before .before .before .before in
     λ e v. reads-broken (now (s .args .text)) (now (s .args .pages)) (now (s .args .list)) e v (c .enum-told .given .1) (c .before .before .judge .ensures)
 
-same-length : tie.Need-same-length
-same-length c = search needs
-
 returns-3 : tie.Need-returns-3
 returns-3 c =
     let else1 = c .before .before .before .before in
@@ -47,11 +35,9 @@ pub read-accepted-spec : {M : Type 1} → statement M
 read-accepted-spec =
     tie.close
     (tie.spec
-    judge-requires
-    enum-told
-    enum-known-judgement
+    (λ c κs. search needs) (λ c. search needs) (λ c. search needs)
     returns
     list-lines-requires
     returns-2
-    same-length
+    (λ c. search needs)
     returns-3)

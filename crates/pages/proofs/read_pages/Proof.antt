@@ -6,28 +6,10 @@ use borrow.Author.Needs.{needs}
 use Rattle.pages.proofs.read_pages.Statement.{statement}
 use Rattle.pages.proofs.read_pages.Tie as tie
 
-read-requires : tie.Need-read-requires
-read-requires c κs = search needs
-
-enum-known-answer : tie.Need-enum-known-answer
-enum-known-answer c = search needs
-
-cast-t8 : tie.Need-cast-t8
-cast-t8 c = search needs
-
-enum-told : tie.Need-enum-told
-enum-told c = search needs
-
-read-accepted-requires : tie.Need-read-accepted-requires
-read-accepted-requires c κs = search needs
-
 returns : tie.Need-returns
 returns c = let s = c .before .before .before .before .before .before .before in
     let t = c .before .before .before .read in
     reads-refused (now (s .args .text)) (now (s .args .pages)) (now (s .args .list)) _ (sym (t .ensures .answered) ∙ c .before .answer .given .1)
-
-same-length : tie.Need-same-length
-same-length c = search needs
 
 returns-2 : tie.Need-returns-2
 returns-2 c =
@@ -41,11 +23,7 @@ pub read-pages-spec : {M : Type 1} → statement M
 read-pages-spec =
     tie.close
     (tie.spec
-    read-requires
-    enum-known-answer
-    cast-t8
-    enum-told
-    read-accepted-requires
+    (λ c κs. search needs) (λ c. search needs) (λ c. search needs) (λ c. search needs) (λ c κs. search needs)
     returns
-    same-length
+    (λ c. search needs)
     returns-2)

@@ -33,9 +33,6 @@ add-v c = let s = c .before .before in omega (arith, s .pre)
 shared-slice-read-v : tie.Need-shared-slice-read-v Inv-loop μ-loop
 shared-slice-read-v c = let s = c .before .before .before in omega (arith, s .pre, c .before .loop-test .taken)
 
-cast-v : tie.Need-cast-v Inv-loop μ-loop
-cast-v c = omega arith
-
 add-v-2 : tie.Need-add-v-2 Inv-loop μ-loop
 add-v-2 c =
     let s = c .before .before .before in
@@ -73,7 +70,7 @@ record-at-spec =
     mul-v
     add-v
     shared-slice-read-v
-    cast-v
+    (λ c. omega arith)
     add-v-2
     add-i
     loop-less

@@ -21,23 +21,14 @@ loop-holds : tie.Need-loop-holds Inv-loop μ-loop
 unfolding after
 loop-holds c = let s = c in (omega arith, refl, ends {m = s .args .low} {t = pairWords} (s .pre .1))
 
-mul-w : tie.Need-mul-w Inv-loop μ-loop
-mul-w c = omega arith
-
 shared-slice-read-w : tie.Need-shared-slice-read-w Inv-loop μ-loop
 shared-slice-read-w c = let s = c .before .before .before in omega (arith, s .pre .0, c .before .loop-test .taken)
-
-add-result : tie.Need-add-result Inv-loop μ-loop
-add-result c = omega arith
 
 returns : tie.Need-returns Inv-loop μ-loop
 returns c = let s = c .before .before .before .before in
     let here = c .before .before .before .loop in
     down (λ W. let r = rising-not (now (s .args .words)) (s .args .low) (here .i) (s .args .count) (c .before .before .loop-test .taken) (s .pre .0) W in
     omega (arith, r .0, here .inv .1, c .if1 .taken))
-
-add-result-2 : tie.Need-add-result-2 Inv-loop μ-loop
-add-result-2 c = omega arith
 
 returns-2 : tie.Need-returns-2 Inv-loop μ-loop
 returns-2 c = let s = c .before .before .before .before .before in
@@ -79,11 +70,11 @@ rising-spec =
     Inv-loop
     μ-loop
     loop-holds
-    mul-w
+    (λ c. omega arith)
     shared-slice-read-w
-    add-result
+    (λ c. omega arith)
     returns
-    add-result-2
+    (λ c. omega arith)
     returns-2
     add-next
     add-i

@@ -17,30 +17,12 @@ Inv-loop work₀ n links used rows₀ code stack₀ i₀ work rows stack i =
 abbrev μ-loop : tie.MeasureT-loop
 μ-loop work₀ n links used rows₀ code stack₀ i₀ work rows stack i = length code - i
 
--- src/lib.rt:241:20
-no-operand-requires : tie.Need-no-operand-requires Inv-loop μ-loop
-no-operand-requires c κs = search needs
-
--- src/lib.rt:246:5
 loop-holds : tie.Need-loop-holds Inv-loop μ-loop
 loop-holds c =
     let start = c .before .before .before .before .before .before in
     let P = start .pre in
     let a = start .args in
     (coded-some (a .n) (a .links .now) (a .used .now) _ (P .4 .2), refl, refl, going-begins _ _ _ _ (P .4 .2) _ _ refl)
-
--- src/lib.rt:246:11
-add-loop : tie.Need-add-loop Inv-loop μ-loop
-add-loop c = omega arith
-
-mul-item-of : tie.Need-mul-item-of Inv-loop μ-loop
-mul-item-of c = omega arith
-
-shared-slice-read-item-of : tie.Need-shared-slice-read-item-of Inv-loop μ-loop
-shared-slice-read-item-of c = omega arith
-
-item-of-requires : tie.Need-item-of-requires Inv-loop μ-loop
-item-of-requires c κs = search needs
 
 step-requires : tie.Need-step-requires Inv-loop μ-loop
 step-requires c κs =
@@ -49,15 +31,6 @@ step-requires c κs =
     let r = going-ready _ _ _ _ (l .i) (omega arith) (l .inv .3) (sym (c .before .before .item-of .ensures)) in
     (P .0, omega (arith, l .inv .1, P .1), P .2, omega (arith, l .inv .2, P .3), r .0, r .1)
 
--- src/lib.rt:248:9
-add-i : tie.Need-add-i Inv-loop μ-loop
-add-i c = omega arith
-
--- src/lib.rt:246:5
-loop-less : tie.Need-loop-less Inv-loop μ-loop
-loop-less c = omega arith
-
--- src/lib.rt:246:5
 loop-again : tie.Need-loop-again Inv-loop μ-loop
 loop-again c =
     let after-step = c .before .before .before .before in
@@ -71,15 +44,12 @@ loop-again c =
       going-more _ _ _ _ (l .i) (omega arith) (l .inv .3) (sym (after-item-of .item-of .ensures)) (s .ensures),
     )
 
--- src/lib.rt:228:1
 same-length : tie.Need-same-length Inv-loop μ-loop
 same-length c = c .before .loop .inv .1
 
--- src/lib.rt:228:1
 same-length-2 : tie.Need-same-length-2 Inv-loop μ-loop
 same-length-2 c = c .before .loop .inv .2
 
--- src/lib.rt:228:1
 returns : tie.Need-returns Inv-loop μ-loop
 returns c =
     let l = c .before .loop in
@@ -93,15 +63,11 @@ evaluate-spec =
     (tie.spec
     Inv-loop
     μ-loop
-    no-operand-requires
+    (λ c κs. search needs)
     loop-holds
-    add-loop
-    mul-item-of
-    shared-slice-read-item-of
-    item-of-requires
+    (λ c. omega arith) (λ c. omega arith) (λ c. omega arith) (λ c κs. search needs)
     step-requires
-    add-i
-    loop-less
+    (λ c. omega arith) (λ c. omega arith)
     loop-again
     same-length
     same-length-2

@@ -21,9 +21,6 @@ early c = takes-early (c .before .before .before .before .before .pre .4) (takes
 starts : (c : tie.After-take-off) → c .take-off .result .start ≤ 18 * treeUnit (c .before .before .before .before .before .args .n)
 starts c = starts-early (takes c .totals) (early c)
 
-take-off-requires : tie.Need-take-off-requires
-take-off-requires c κs = search needs
-
 mul-outcome-rows : tie.Need-mul-outcome-rows
 mul-outcome-rows c = omega (arith, starts (c .before), c .before .before .before .before .before .before .pre .1)
 
@@ -32,15 +29,6 @@ sub-outcome-rows c = omega (arith, starts (c .before), c .before .before .before
 
 part-outcome-rows-start : tie.Need-part-outcome-rows-start
 part-outcome-rows-start c = omega (arith, starts (c .before), c .before .before .before .before .before .before .pre .1)
-
-part-outcome-rows-end : tie.Need-part-outcome-rows-end
-part-outcome-rows-end c = search needs
-
-outcome-rows-requires : tie.Need-outcome-rows-requires
-outcome-rows-requires c κs = search needs
-
-same-length : tie.Need-same-length
-same-length c = search needs
 
 returns : tie.Need-returns
 returns c =
@@ -57,11 +45,9 @@ pub last-spec : {M : Type 1} → statement M
 last-spec =
     tie.close
     (tie.spec
-    take-off-requires
+    (λ c κs. search needs)
     mul-outcome-rows
     sub-outcome-rows
     part-outcome-rows-start
-    part-outcome-rows-end
-    outcome-rows-requires
-    same-length
+    (λ c. search needs) (λ c κs. search needs) (λ c. search needs)
     returns)

@@ -34,15 +34,6 @@ lettered c b R =
     subst (λ (u : ℕ → ℕ). Lettered b (after-size .size .result) (take (after-links .links .result .count) (after-links .links .result .words)) u)
     (sym (c .in-use .ensures)) (read-lettered (c .before .before .marks .ensures) b R (after-size .size .ensures) (after-links .links .ensures))
 
--- src/lib.rt:282:9
-size-requires : tie.Need-size-requires
-size-requires c κs = search needs
-
--- src/lib.rt:283:21
-pairs-work-requires : tie.Need-pairs-work-requires
-pairs-work-requires c κs = search needs
-
--- src/lib.rt:284:9
 returns : tie.Need-returns
 returns c =
     let after-size = c .before .before in
@@ -50,78 +41,15 @@ returns c =
     λ s e q. asks-short by-trees (start .args .register) _ _ e refl (after-size .size .result) (after-size .size .ensures .size)
     (subst (λ (i : ℕ). length (start .args .work .now) < i) (c .before .pairs-work .ensures) (c .if1 .taken))
 
--- src/lib.rt:286:9
-links-requires : tie.Need-links-requires
-links-requires c κs = search needs
-
--- src/lib.rt:289:17
-marks-requires : tie.Need-marks-requires
-marks-requires c κs = search needs
-
--- src/lib.rt:290:30
-slice-aggregate-in-use : tie.Need-slice-aggregate-in-use
-slice-aggregate-in-use c = search needs
-
--- src/lib.rt:290:16
-in-use-requires : tie.Need-in-use-requires
-in-use-requires c κs = search needs
-
--- src/lib.rt:292:18
-array-share-prefix-array : tie.Need-array-share-prefix-array
-array-share-prefix-array c = search needs
-
--- src/lib.rt:292:18
 slice-aggregate-run : tie.Need-slice-aggregate-run
 slice-aggregate-run c = sym (length-take-le _ _ (in-words (c .before .before .before .before .before .before)))
 
--- src/lib.rt:292:35
-slice-aggregate-run-2 : tie.Need-slice-aggregate-run-2
-slice-aggregate-run-2 c = search needs
-
--- src/lib.rt:292:42
-slice-aggregate-run-3 : tie.Need-slice-aggregate-run-3
-slice-aggregate-run-3 c = search needs
-
--- src/lib.rt:292:53
-array-share-prefix-code : tie.Need-array-share-prefix-code
-array-share-prefix-code c = search needs
-
--- src/lib.rt:292:53
 slice-aggregate-run-4 : tie.Need-slice-aggregate-run-4
 slice-aggregate-run-4 c =
     let earlier = c .before .before .before .before .before .before .before in
     let start = earlier .before .before .before .before .before .before .before .before in
     sym (length-take-le _ _ (start .pre .0))
 
--- src/lib.rt:292:5
-run-requires : tie.Need-run-requires
-run-requires c κs = search needs
-
--- src/lib.rt:293:35
-slice-aggregate-count-pairs : tie.Need-slice-aggregate-count-pairs
-slice-aggregate-count-pairs c = search needs
-
--- src/lib.rt:293:9
-count-pairs-requires : tie.Need-count-pairs-requires
-count-pairs-requires c κs = search needs
-
--- src/lib.rt:294:23
-slice-aggregate-write-pairs : tie.Need-slice-aggregate-write-pairs
-slice-aggregate-write-pairs c = search needs
-
--- src/lib.rt:294:5
-write-pairs-requires : tie.Need-write-pairs-requires
-write-pairs-requires c κs = search needs
-
--- src/lib.rt:271:1
-same-length : tie.Need-same-length
-same-length c = search needs
-
--- src/lib.rt:271:1
-same-length-2 : tie.Need-same-length-2
-same-length-2 c = search needs
-
--- src/lib.rt:271:1
 returns-2 : tie.Need-returns-2
 returns-2 c =
     let after-count-pairs = c .before .before .before .before .before in
@@ -144,24 +72,12 @@ pub of-code-spec : {M : Type 1} → statement M
 of-code-spec =
     tie.close
     (tie.spec
-    size-requires
-    pairs-work-requires
+    (λ c κs. search needs) (λ c κs. search needs)
     returns
-    links-requires
-    marks-requires
-    slice-aggregate-in-use
-    in-use-requires
-    array-share-prefix-array
+    (λ c κs. search needs) (λ c κs. search needs) (λ c. search needs) (λ c κs. search needs) (λ c. search needs)
     slice-aggregate-run
-    slice-aggregate-run-2
-    slice-aggregate-run-3
-    array-share-prefix-code
+    (λ c. search needs) (λ c. search needs) (λ c. search needs)
     slice-aggregate-run-4
-    run-requires
-    slice-aggregate-count-pairs
-    count-pairs-requires
-    slice-aggregate-write-pairs
-    write-pairs-requires
-    same-length
-    same-length-2
+    (λ c κs. search needs) (λ c. search needs) (λ c κs. search needs) (λ c. search needs) (λ c κs. search needs) (λ c. search needs)
+    (λ c. search needs)
     returns-2)

@@ -22,62 +22,30 @@ early c = takes-early (c .before .before .before .before .before .pre .4) (takes
 starts : (c : tie.After-take-off) → c .take-off .result .start ≤ 18 * treeUnit (c .before .before .before .before .before .args .n)
 starts c = starts-early (takes c .totals) (early c)
 
--- src/lib.rt:185:9
-take-off-requires : tie.Need-take-off-requires
-take-off-requires c κs = search needs
-
--- src/lib.rt:189:36
 mul-operate : tie.Need-mul-operate
 mul-operate c = omega (arith, starts (c .before), c .before .before .before .before .before .before .pre .1)
 
--- src/lib.rt:189:36
 sub-operate : tie.Need-sub-operate
 sub-operate c = omega (arith, starts (c .before), c .before .before .before .before .before .before .pre .1)
 
--- src/lib.rt:189:36
 part-operate-start : tie.Need-part-operate-start
 part-operate-start c = omega (arith, starts (c .before), c .before .before .before .before .before .before .pre .1)
 
--- src/lib.rt:189:36
-part-operate-end : tie.Need-part-operate-end
-part-operate-end c = search needs
-
--- src/lib.rt:189:9
-operate-requires : tie.Need-operate-requires
-operate-requires c κs = search needs
-
--- src/lib.rt:190:9
-bounded-requires : tie.Need-bounded-requires
-bounded-requires c κs = search needs
-
--- src/lib.rt:198:5
 mul-operand : tie.Need-mul-operand
 mul-operand c = omega (arith, early (c .before .before .before .before .before .before .before .before .before))
 
--- src/lib.rt:198:5
 element-set-from-operand : tie.Need-element-set-from-operand
 element-set-from-operand c = omega (arith, early (c .before .before .before .before .before .before .before .before .before))
 
--- src/lib.rt:199:18
 add-next : tie.Need-add-next
 add-next c = omega (arith, early (c .before .before .before .before .before .before .before .before .before))
 
--- src/lib.rt:200:16
 add-next-2 : tie.Need-add-next-2
 add-next-2 c =
     let after-take-off = c .before .before .before .before .before .before .before .before .before in
     let start = after-take-off .before .before .before .before .before in
     omega (arith, starts after-take-off, start .pre .1, c .bounded .ensures .0)
 
--- src/lib.rt:172:1
-same-length : tie.Need-same-length
-same-length c = search needs
-
--- src/lib.rt:172:1
-same-length-2 : tie.Need-same-length-2
-same-length-2 c = search needs
-
--- src/lib.rt:172:1
 returns : tie.Need-returns
 returns c =
     let after-operate = c .before .before .before .before .before in
@@ -97,17 +65,14 @@ pub operator-spec : {M : Type 1} → statement M
 operator-spec =
     tie.close
     (tie.spec
-    take-off-requires
+    (λ c κs. search needs)
     mul-operate
     sub-operate
     part-operate-start
-    part-operate-end
-    operate-requires
-    bounded-requires
+    (λ c. search needs) (λ c κs. search needs) (λ c κs. search needs)
     mul-operand
     element-set-from-operand
     add-next
     add-next-2
-    same-length
-    same-length-2
+    (λ c. search needs) (λ c. search needs)
     returns)

@@ -14,23 +14,6 @@ use Rattle.pairs.proofs.pairs.Tie as tie
 code-length : (c : tie.After-read) → length (c .read .result .code) ≡ 256
 code-length c = search needs
 
--- src/lib.rt:307:9
-read-requires : tie.Need-read-requires
-read-requires c κs = search needs
-
--- src/lib.rt:311:33
-enum-known-answer : tie.Need-enum-known-answer
-enum-known-answer c = search needs
-
--- src/lib.rt:311:56
-cast-t11 : tie.Need-cast-t11
-cast-t11 c = search needs
-
--- src/lib.rt:312:34
-enum-known-answer-2 : tie.Need-enum-known-answer-2
-enum-known-answer-2 c = search needs
-
--- src/lib.rt:312:42
 of-code-requires : tie.Need-of-code-requires
 of-code-requires c κs =
     let after-answer2 = c .before .before .before in
@@ -39,19 +22,9 @@ of-code-requires c κs =
     let q = read-coded (after-read .read .ensures) (after-answer2 .answer2 .given .1) in
     (omega (arith, code-length after-read, q .3), (start .args .text .now, q .0, q .2))
 
--- src/lib.rt:299:1
 returns : tie.Need-returns
 returns c = asks-faulty by-trees _ _ _ _ _ (sym (c .before .before .before .before .read .ensures .answered) ∙ c .before .answer .given .1)
 
--- src/lib.rt:299:1
-same-length : tie.Need-same-length
-same-length c = search needs
-
--- src/lib.rt:299:1
-same-length-2 : tie.Need-same-length-2
-same-length-2 c = search needs
-
--- src/lib.rt:299:1
 returns-2 : tie.Need-returns-2
 returns-2 c =
     let after-of-code = c .before .before .before .before in
@@ -68,12 +41,8 @@ pub pairs-spec : {M : Type 1} → statement M
 pairs-spec =
     tie.close
     (tie.spec
-    read-requires
-    enum-known-answer
-    cast-t11
-    enum-known-answer-2
+    (λ c κs. search needs) (λ c. search needs) (λ c. search needs) (λ c. search needs)
     of-code-requires
     returns
-    same-length
-    same-length-2
+    (λ c. search needs) (λ c. search needs)
     returns-2)

@@ -8,10 +8,6 @@ use borrow.Author.Needs.{needs}
 use Rattle.pairs.proofs.run.Statement.{statement}
 use Rattle.pairs.proofs.run.Tie as tie
 
--- src/lib.rt:296:9
-evaluate-requires : tie.Need-evaluate-requires
-evaluate-requires c κs = search needs
-
 -- the code has a number
 some : (c : tie.Start) → 1 ≤ length (c .args .code .now)
 some c = coded-some (c .args .n) (c .args .links .now) (c .args .used .now) _ (c .pre .4 .2)
@@ -24,9 +20,6 @@ mul-item-of c = omega (arith, some (c .before .before .before .before .before .b
 
 shared-slice-read-item-of : tie.Need-shared-slice-read-item-of
 shared-slice-read-item-of c = omega (arith, some (c .before .before .before .before .before .before .before .before .before .before .before .before .before))
-
-item-of-requires : tie.Need-item-of-requires
-item-of-requires c κs = search needs
 
 last-requires : tie.Need-last-requires
 last-requires c κs =
@@ -41,15 +34,6 @@ last-requires c κs =
     let q = going-ready (a .n) (a .links .now) (a .used .now) _ _ (omega arith) (E .ensures) (sym (c .before .before .item-of .ensures)) in
     (P .0, omega (arith, P .1), P .2, r ∙ P .3, q .0, q .1)
 
--- src/lib.rt:283:1
-same-length : tie.Need-same-length
-same-length c = search needs
-
--- src/lib.rt:283:1
-same-length-2 : tie.Need-same-length-2
-same-length-2 c = search needs
-
--- src/lib.rt:283:1
 returns : tie.Need-returns
 returns c =
     let after-item-of = c .before .before .before .before .before in
@@ -63,12 +47,11 @@ pub run-spec : {M : Type 1} → statement M
 run-spec =
     tie.close
     (tie.spec
-    evaluate-requires
+    (λ c κs. search needs)
     sub-item-of
     mul-item-of
     shared-slice-read-item-of
-    item-of-requires
+    (λ c κs. search needs)
     last-requires
-    same-length
-    same-length-2
+    (λ c. search needs) (λ c. search needs)
     returns)

@@ -15,12 +15,6 @@ use Rattle.pairs.proofs.StepLaws.{goes-letters, goes-inverse}
 use Rattle.pairs.proofs.step.Statement.{statement}
 use Rattle.pairs.proofs.step.Tie as tie
 
-enum-known-item : tie.Need-enum-known-item
-enum-known-item c = search needs
-
-letters-requires : tie.Need-letters-requires
-letters-requires c κs = search needs
-
 -- there is room for an operand more
 room : (c : tie.After-item) → c .before .before .before .before .before .before .args .stack .count < 19
 room c =
@@ -29,9 +23,6 @@ room c =
 
 push-requires : tie.Need-push-requires
 push-requires c κs = (room (c .before .before), c .before .before .before .before .before .before .before .before .pre .5 .slots)
-
-enum-told : tie.Need-enum-told
-enum-told c = search needs
 
 -- `^` has an operand
 some : (c : tie.After-enum-told)
@@ -45,9 +36,6 @@ some c =
 
 inverse-requires : tie.Need-inverse-requires
 inverse-requires c κs = some c
-
-operator-requires : tie.Need-operator-requires
-operator-requires c κs = search needs
 
 returns : tie.Need-returns
 returns c =
@@ -70,27 +58,15 @@ returns-2 c =
     (subst (λ (S : Stack). Goes (a .n) (a .links .now) (a .used .now) Inverse (a .work .now) (a .work .now) (a .stack) S) (sym (c .inverse .ensures))
     (goes-inverse (a .n) (a .links .now) (a .used .now) (a .work .now) (a .stack) (h .0) (h .1) (h .2)))
 
-same-length : tie.Need-same-length
-same-length c = search needs
-
-same-length-2 : tie.Need-same-length-2
-same-length-2 c = search needs
-
-returns-3 : tie.Need-returns-3
-returns-3 c = search needs
-
 pub step-spec : {M : Type 1} → statement M
 step-spec =
     tie.close
     (tie.spec
-    enum-known-item
-    letters-requires
+    (λ c. search needs) (λ c κs. search needs)
     push-requires
-    enum-told
+    (λ c. search needs)
     inverse-requires
-    operator-requires
+    (λ c κs. search needs)
     returns
     returns-2
-    same-length
-    same-length-2
-    returns-3)
+    (λ c. search needs) (λ c. search needs) (λ c. search needs))

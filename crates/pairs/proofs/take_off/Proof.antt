@@ -12,18 +12,6 @@ use Rattle.pairs.proofs.StepLaws.{has-one, has-turned, has-two, takes-l
 use Rattle.pairs.proofs.take_off.Statement.{statement}
 use Rattle.pairs.proofs.take_off.Tie as tie
 
-enum-known-item : tie.Need-enum-known-item
-enum-known-item c = search needs
-
-no-operand-requires : tie.Need-no-operand-requires
-no-operand-requires c κs = search needs
-
-letters-requires : tie.Need-letters-requires
-letters-requires c κs = search needs
-
-enum-told : tie.Need-enum-told
-enum-told c = search needs
-
 -- `^` has an operand
 inverts : (c : tie.After-enum-told) → 1 ≤ operands (c .before .before .args .item)
 inverts c = let o : operands (c .before .before .args .item) ≡ 1 = ap operands (c .enum-told .given .1) in omega arith
@@ -36,17 +24,11 @@ on-one-requires c κs =
     let start = c .before .before .before in
     rw (c .inverse .ensures) (has-turned (start .pre .1 .1) (start .pre .0) (inverts (c .before)))
 
-enum-told-2 : tie.Need-enum-told-2
-enum-told-2 c = search needs
-
 is-star : (c : tie.After-enum-told2) → Unary (c .before .before .args .item) Star
 is-star c = subst (λ (y : Item). Unary y Star) (sym (c .enum-told2 .given .1)) of-star
 
 on-one-requires-2 : tie.Need-on-one-requires-2
 on-one-requires-2 c κs = has-one (c .before .before .pre .1 .1) (c .before .before .pre .0) (let o = unary-one (is-star c) in omega arith)
-
-enum-told-3 : tie.Need-enum-told-3
-enum-told-3 c = search needs
 
 is-plus : (c : tie.After-enum-told3) → Unary (c .before .before .args .item) Closure
 is-plus c = subst (λ (y : Item). Unary y Closure) (sym (c .enum-told3 .given .1)) of-plus
@@ -54,26 +36,17 @@ is-plus c = subst (λ (y : Item). Unary y Closure) (sym (c .enum-told3 .given .1
 on-one-requires-3 : tie.Need-on-one-requires-3
 on-one-requires-3 c κs = has-one (c .before .before .pre .1 .1) (c .before .before .pre .0) (let o = unary-one (is-plus c) in omega arith)
 
-enum-told-4 : tie.Need-enum-told-4
-enum-told-4 c = search needs
-
 is-optional : (c : tie.After-enum-told4) → Unary (c .before .before .args .item) Optional
 is-optional c = subst (λ (y : Item). Unary y Optional) (sym (c .enum-told4 .given .1)) of-optional
 
 on-one-requires-4 : tie.Need-on-one-requires-4
 on-one-requires-4 c κs = has-one (c .before .before .pre .1 .1) (c .before .before .pre .0) (let o = unary-one (is-optional c) in omega arith)
 
-enum-told-5 : tie.Need-enum-told-5
-enum-told-5 c = search needs
-
 is-alternative : (c : tie.After-enum-told5) → Binary (c .before .before .args .item) Union
 is-alternative c = subst (λ (y : Item). Binary y Union) (sym (c .enum-told5 .given .1)) of-alternative
 
 on-two-requires : tie.Need-on-two-requires
 on-two-requires c κs = has-two (c .before .before .pre .1 .1) (c .before .before .pre .0) (is-alternative c)
-
-enum-told-6 : tie.Need-enum-told-6
-enum-told-6 c = search needs
 
 is-sequence : (c : tie.After-enum-told6) → Binary (c .before .before .args .item) Product
 is-sequence c = subst (λ (y : Item). Binary y Product) (sym (c .enum-told6 .given .1)) of-sequence
@@ -110,21 +83,18 @@ pub take-off-spec : {M : Type 1} → statement M
 take-off-spec =
     tie.close
     (tie.spec
-    enum-known-item
-    no-operand-requires
-    letters-requires
-    enum-told
+    (λ c. search needs) (λ c κs. search needs) (λ c κs. search needs) (λ c. search needs)
     inverse-requires
     on-one-requires
-    enum-told-2
+    (λ c. search needs)
     on-one-requires-2
-    enum-told-3
+    (λ c. search needs)
     on-one-requires-3
-    enum-told-4
+    (λ c. search needs)
     on-one-requires-4
-    enum-told-5
+    (λ c. search needs)
     on-two-requires
-    enum-told-6
+    (λ c. search needs)
     on-two-requires-2
     returns
     returns-2

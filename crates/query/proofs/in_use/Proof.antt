@@ -23,9 +23,6 @@ abbrev μ-loop : tie.MeasureT-loop
 loop-holds : tie.Need-loop-holds Inv-loop μ-loop
 loop-holds c = (omega arith, refl, bits-none 16 ∙ sym (used-none (c .before .args .marks .now)))
 
-mul-if1 : tie.Need-mul-if1 Inv-loop μ-loop
-mul-if1 c = omega arith
-
 shared-slice-read-if1 : tie.Need-shared-slice-read-if1 Inv-loop μ-loop
 shared-slice-read-if1 c = omega (arith, c .before .before .before .before .pre .1)
 
@@ -34,12 +31,6 @@ slice-aggregate-set-bit c = sym (c .before .before .before .before .loop .inv .1
 
 set-bit-requires : tie.Need-set-bit-requires Inv-loop μ-loop
 set-bit-requires c κs = let l = c .before .before .before .before .loop in omega (arith, l .inv .1, c .before .before .before .before .before .before .pre .0)
-
-add-i : tie.Need-add-i Inv-loop μ-loop
-add-i c = omega arith
-
-loop-less : tie.Need-loop-less Inv-loop μ-loop
-loop-less c = omega arith
 
 loop-again : tie.Need-loop-again Inv-loop μ-loop
 loop-again c =
@@ -68,11 +59,10 @@ in-use-spec =
     Inv-loop
     μ-loop
     loop-holds
-    mul-if1
+    (λ c. omega arith)
     shared-slice-read-if1
     slice-aggregate-set-bit
     set-bit-requires
-    add-i
-    loop-less
+    (λ c. omega arith) (λ c. omega arith)
     loop-again
     returns)

@@ -8,9 +8,6 @@ use Rattle.query.specs.WorkLaws.{unit-le}
 use Rattle.query.proofs.rows_work.Statement.{statement}
 use Rattle.query.proofs.rows_work.Tie as tie
 
-row-width-requires : tie.Need-row-width-requires
-row-width-requires c κs = search needs
-
 mul-result : tie.Need-mul-result
 mul-result c =
     let w : c .row-width .result ≡ rowWidth (c .before .args .n) = c .row-width .ensures in
@@ -25,4 +22,4 @@ returns : tie.Need-returns
 returns c = ap (λ (w : ℕ). 32 * (c .before .args .n * w)) (c .row-width .ensures)
 
 pub rows-work-spec : {M : Type 1} → statement M
-rows-work-spec = tie.close (tie.spec row-width-requires mul-result mul-result-2 returns)
+rows-work-spec = tie.close (tie.spec (λ c κs. search needs) mul-result mul-result-2 returns)

@@ -27,7 +27,7 @@ pub +alternatives+atom+part+sequence-spec : {M : Type 1} → statement M
     close μ-alternatives μ-atom μ-part μ-sequence
     (λ t. alternatives-lts.spec (alternatives.calls t) (alternatives-at t) alternatives-reads.Post alternatives.Inv-loop alternatives.μ-loop
     (alternatives.sequence-requires t) (alternatives.loop-holds t) (alternatives.comes-next-requires t) (alternatives.ends-at-requires t)
-    (alternatives.add-sequence t) (alternatives.sequence-requires-2 t) (alternatives.joined-requires t) (alternatives.loop-less t)
+    (alternatives.add-sequence t) (alternatives.sequence-requires-2 t) (alternatives.combined-requires t) (alternatives.loop-less t)
     (alternatives.loop-again t) (alternatives.same-length t) (alternatives.returns t))
     (λ t. atom-lts.spec (atom.calls t) (atom-at t) atom-reads.Post
     (atom.peek-requires t) (atom.add-alternatives t) (atom.alternatives-requires t) (atom.closed-requires t) (atom.same-length t)
@@ -38,5 +38,5 @@ pub +alternatives+atom+part+sequence-spec : {M : Type 1} → statement M
     (part.returns t) (part.same-length-2 t) (part.returns-2 t))
     (λ t. sequence-lts.spec (sequence.calls t) (sequence-at t) sequence-reads.Post sequence.Inv-loop sequence.μ-loop
     (sequence.part-requires t) (sequence.loop-holds t) (sequence.comes-next-requires t) (sequence.ends-at-requires t)
-    (sequence.add-part t) (sequence.part-requires-2 t) (sequence.joined-requires t) (sequence.loop-less t) (sequence.loop-again t)
+    (sequence.add-part t) (sequence.part-requires-2 t) (sequence.combined-requires t) (sequence.loop-less t) (sequence.loop-again t)
     (sequence.same-length t) (sequence.returns t))

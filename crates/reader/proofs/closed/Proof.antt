@@ -9,17 +9,8 @@ use Rattle.reader.proofs.StepLaws.{there, fit, none-closed, closes, not
 use Rattle.reader.proofs.closed.Statement.{statement}
 use Rattle.reader.proofs.closed.Tie as tie
 
-enum-known-r : tie.Need-enum-known-r
-enum-known-r c = search needs
-
-enum-told : tie.Need-enum-told
-enum-told c = search needs
-
 returns : tie.Need-returns
 returns c = none-closed (c .enum-told .given .1)
-
-peek-requires : tie.Need-peek-requires
-peek-requires c κs = search needs
 
 -- the ) stands inside the text, and the depth fits
 inside : (c : tie.Then1)
@@ -44,4 +35,4 @@ returns-3 : tie.Need-returns-3
 returns-3 c = not-closed (c .before .before .before .r .given .1) (λ e. c .if1 .left (c .before .peek .ensures ∙ e))
 
 pub closed-spec : {M : Type 1} → statement M
-closed-spec = tie.close (tie.spec enum-known-r enum-told returns peek-requires add-t7 add-t8 returns-2 returns-3)
+closed-spec = tie.close (tie.spec (λ c. search needs) (λ c. search needs) returns (λ c κs. search needs) add-t7 add-t8 returns-2 returns-3)

@@ -3,20 +3,8 @@ use borrow.Author.Needs.{needs}
 use Rattle.reader.proofs.comes_next.Statement.{statement}
 use Rattle.reader.proofs.comes_next.Tie as tie
 
-enum-known-r : tie.Need-enum-known-r
-enum-known-r c = search needs
-
-enum-told : tie.Need-enum-told
-enum-told c = search needs
-
-returns : tie.Need-returns
-returns c = search needs
-
-peek-requires : tie.Need-peek-requires
-peek-requires c κs = search needs
-
 returns-2 : tie.Need-returns-2
 returns-2 c = rw (c .before .before .r .given .1, c .peek .ensures)
 
 pub comes-next-spec : {M : Type 1} → statement M
-comes-next-spec = tie.close (tie.spec enum-known-r enum-told returns peek-requires returns-2)
+comes-next-spec = tie.close (tie.spec (λ c. search needs) (λ c. search needs) (λ c. search needs) (λ c κs. search needs) returns-2)

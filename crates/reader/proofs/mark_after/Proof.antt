@@ -7,18 +7,6 @@ use Rattle.reader.specs.Progress.{no-mark, markNumber, markOf}
 use Rattle.reader.proofs.mark_after.Statement.{statement}
 use Rattle.reader.proofs.mark_after.Tie as tie
 
-enum-known-r : tie.Need-enum-known-r
-enum-known-r c = search needs
-
-enum-told : tie.Need-enum-told
-enum-told c = search needs
-
-returns : tie.Need-returns
-returns c = search needs
-
-peek-requires : tie.Need-peek-requires
-peek-requires c κs = search needs
-
 -- the mark after what was read is that of the byte
 of-byte : (c : tie.After-peek)
     → let start = c .before .before .before .before .before in
@@ -50,4 +38,6 @@ returns-5 c =
     sym number ∙ of-byte after-peek
 
 pub mark-after-spec : {M : Type 1} → statement M
-mark-after-spec = tie.close (tie.spec enum-known-r enum-told returns peek-requires returns-2 returns-3 returns-4 returns-5)
+mark-after-spec = tie.close
+    (tie.spec
+    (λ c. search needs) (λ c. search needs) (λ c. search needs) (λ c κs. search needs) returns-2 returns-3 returns-4 returns-5)

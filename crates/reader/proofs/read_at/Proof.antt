@@ -11,21 +11,6 @@ use Rattle.reader.proofs.AnswerLaws.{refuses-outside, empty-text}
 use Rattle.reader.proofs.read_at.Statement.{statement}
 use Rattle.reader.proofs.read_at.Tie as tie
 
-sub-text : tie.Need-sub-text
-sub-text c = search needs
-
-part-text-start : tie.Need-part-text-start
-part-text-start c = search needs
-
-part-text-end : tie.Need-part-text-end
-part-text-end c = search needs
-
-whole-requires : tie.Need-whole-requires
-whole-requires c κs = search needs
-
-refused-requires : tie.Need-refused-requires
-refused-requires c κs = search needs
-
 returns : tie.Need-returns
 returns c =
     let start = c .before .before .before .before in
@@ -40,4 +25,4 @@ returns-2 c =
     refuses-outside (empty-text (drop-of-length-le (start .args .src .now) {i = start .args .at} (omega (arith, c .before .if1 .left)))) (c .refused .ensures)
 
 pub read-at-spec : {M : Type 1} → statement M
-read-at-spec = tie.close (tie.spec sub-text part-text-start part-text-end whole-requires refused-requires returns returns-2)
+read-at-spec = tie.close (tie.spec (λ c. search needs) (λ c. search needs) (λ c. search needs) (λ c κs. search needs) (λ c κs. search needs) returns returns-2)

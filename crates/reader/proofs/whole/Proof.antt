@@ -6,35 +6,14 @@ use Rattle.reader.proofs.AnswerLaws.{refuses-long, refuses-outside, ref
 use Rattle.reader.proofs.whole.Statement.{statement}
 use Rattle.reader.proofs.whole.Tie as tie
 
-refused-requires : tie.Need-refused-requires
-refused-requires c κs = search needs
-
 returns : tie.Need-returns
 returns c = refuses-long (verdict-long _ (c .before .if1 .taken)) (c .refused .ensures)
-
-slice-aggregate-alternatives : tie.Need-slice-aggregate-alternatives
-slice-aggregate-alternatives c = search needs
-
-alternatives-requires : tie.Need-alternatives-requires
-alternatives-requires c κs = search needs
-
-enum-known-r : tie.Need-enum-known-r
-enum-known-r c = search needs
-
-enum-told : tie.Need-enum-told
-enum-told c = search needs
-
-refused-requires-2 : tie.Need-refused-requires-2
-refused-requires-2 c κs = search needs
 
 returns-2 : tie.Need-returns-2
 returns-2 c =
     let after-alternatives = c .before .before .before .before in
     refuses-outside (verdict-none _ (after-alternatives .before .before .if1 .left)
     (missed (c .before .enum-told .given .1) (after-alternatives .alternatives .ensures))) (c .refused2 .ensures)
-
-refused-requires-3 : tie.Need-refused-requires-3
-refused-requires-3 c κs = search needs
 
 returns-3 : tie.Need-returns-3
 returns-3 c =
@@ -43,9 +22,6 @@ returns-3 c =
     let read = gave (after-r .r .given .1) (after-alternatives .alternatives .ensures) in
     refuses-outside (more-bytes (after-alternatives .before .before .if1 .left) read (c .before .if2 .taken)) (c .refused3 .ensures)
 
-refused-requires-4 : tie.Need-refused-requires-4
-refused-requires-4 c κs = search needs
-
 returns-4 : tie.Need-returns-4
 returns-4 c =
     let else2 = c .before .before .before in
@@ -53,9 +29,6 @@ returns-4 c =
     let after-alternatives = after-r .before .before .before in
     let read = gave (after-r .r .given .1) (after-alternatives .alternatives .ensures) in
     refuses-large (many-letters (after-alternatives .before .before .if1 .left) read (else2 .if2 .left) (c .before .if3 .taken)) (c .refused4 .ensures)
-
-refused-requires-5 : tie.Need-refused-requires-5
-refused-requires-5 c κs = search needs
 
 returns-5 : tie.Need-returns-5
 returns-5 c =
@@ -78,18 +51,14 @@ pub whole-spec : {M : Type 1} → statement M
 whole-spec =
     tie.close
     (tie.spec
-    refused-requires
+    (λ c κs. search needs)
     returns
-    slice-aggregate-alternatives
-    alternatives-requires
-    enum-known-r
-    enum-told
-    refused-requires-2
+    (λ c. search needs) (λ c κs. search needs) (λ c. search needs) (λ c. search needs) (λ c κs. search needs)
     returns-2
-    refused-requires-3
+    (λ c κs. search needs)
     returns-3
-    refused-requires-4
+    (λ c κs. search needs)
     returns-4
-    refused-requires-5
+    (λ c κs. search needs)
     returns-5
     returns-6)

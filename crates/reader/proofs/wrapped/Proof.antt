@@ -9,15 +9,6 @@ use Rattle.reader.proofs.StepLaws.{has-room}
 use Rattle.reader.proofs.wrapped.Statement.{statement}
 use Rattle.reader.proofs.wrapped.Tie as tie
 
-enum-known-r : tie.Need-enum-known-r
-enum-known-r c = search needs
-
-enum-told : tie.Need-enum-told
-enum-told c = search needs
-
-returns : tie.Need-returns
-returns c = search needs
-
 returns-2 : tie.Need-returns-2
 returns-2 c = rw (c .before .before .r .given .1, eq-eqb _ _ (c .if1 .taken)) (refl, refl)
 
@@ -36,9 +27,6 @@ push-requires c κs = room (c .before) .0
 add-t10 : tie.Need-add-t10
 add-t10 c = let h = room (c .before .before .before .before .before) in omega arith
 
-same-length : tie.Need-same-length
-same-length c = search needs
-
 returns-3 : tie.Need-returns-3
 returns-3 c =
     let after-push = c .before .before .before in
@@ -46,4 +34,4 @@ returns-3 c =
     rw (after-r .r .given .1, ne-eqb _ _ (after-push .before .before .if1 .left), after-push .push .ensures .0, after-push .push .ensures .1) (refl, refl)
 
 pub wrapped-spec : {M : Type 1} → statement M
-wrapped-spec = tie.close (tie.spec enum-known-r enum-told returns returns-2 push-requires add-t10 same-length returns-3)
+wrapped-spec = tie.close (tie.spec (λ c. search needs) (λ c. search needs) (λ c. search needs) returns-2 push-requires add-t10 (λ c. search needs) returns-3)

@@ -5,12 +5,6 @@ use Rattle.report.specs.Report.{labelLetter}
 use Rattle.report.proofs.label_letter.Statement.{statement}
 use Rattle.report.proofs.label_letter.Tie as tie
 
-cast-result : tie.Need-cast-result
-cast-result c = search needs
-
-add-result : tie.Need-add-result
-add-result c = search needs
-
 returns : tie.Need-returns
 unfolding labelLetter
 returns c = rw (lt-ltb _ _ (c .if1 .taken))
@@ -20,4 +14,4 @@ unfolding labelLetter
 returns-2 c = rw (le-ltb _ _ (c .if1 .left))
 
 pub label-letter-spec : {M : Type 1} → statement M
-label-letter-spec = tie.close (tie.spec cast-result add-result returns returns-2)
+label-letter-spec = tie.close (tie.spec (λ c. search needs) (λ c. search needs) returns returns-2)

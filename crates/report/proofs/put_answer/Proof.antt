@@ -7,21 +7,9 @@ use Rattle.answers.specs.WrittenLaws.{wrote-as}
 use Rattle.report.proofs.put_answer.Statement.{statement}
 use Rattle.report.proofs.put_answer.Tie as tie
 
-put-ok-requires : tie.Need-put-ok-requires
-put-ok-requires c κs = search needs
-
-same-length : tie.Need-same-length
-same-length c = search needs
-
 returns : tie.Need-returns
 unfolding answerText
 returns c = rw (c .before .before .before .before .if1 .taken) (c .before .before .put-ok .ensures)
-
-put-refused-requires : tie.Need-put-refused-requires
-put-refused-requires c κs = search needs
-
-same-length-2 : tie.Need-same-length-2
-same-length-2 c = search needs
 
 returns-2 : tie.Need-returns-2
 returns-2 c =
@@ -29,4 +17,4 @@ returns-2 c =
     wrote-as (sym (refused-text (else1 .before .before .args .k) (else1 .if1 .left))) (c .before .before .put-refused .ensures)
 
 pub put-answer-spec : {M : Type 1} → statement M
-put-answer-spec = tie.close (tie.spec put-ok-requires same-length returns put-refused-requires same-length-2 returns-2)
+put-answer-spec = tie.close (tie.spec (λ c κs. search needs) (λ c. search needs) returns (λ c κs. search needs) (λ c. search needs) returns-2)

@@ -33,21 +33,6 @@ loop-holds c =
     let most = length-counted-most (bytes "chain ") (length (now (start .args .words))) (omega arith) in
     lined-none (omega (arith, p .ensures .place))
 
-mul-put-step : tie.Need-mul-put-step Inv-loop μ-loop
-mul-put-step c = omega arith
-
-shared-slice-read-put-step : tie.Need-shared-slice-read-put-step Inv-loop μ-loop
-shared-slice-read-put-step c = omega arith
-
-put-step-requires : tie.Need-put-step-requires Inv-loop μ-loop
-put-step-requires c κs = omega arith
-
-add-i : tie.Need-add-i Inv-loop μ-loop
-add-i c = omega arith
-
-loop-less : tie.Need-loop-less Inv-loop μ-loop
-loop-less c = omega arith
-
 loop-again : tie.Need-loop-again Inv-loop μ-loop
 loop-again c =
     let here = c .before .before .before .before .before .before .loop in
@@ -70,11 +55,7 @@ put-chain-spec =
     slice-aggregate-put-counted
     put-counted-requires
     loop-holds
-    mul-put-step
-    shared-slice-read-put-step
-    put-step-requires
-    add-i
-    loop-less
+    (λ c. omega arith) (λ c. omega arith) (λ c κs. omega arith) (λ c. omega arith) (λ c. omega arith)
     loop-again
     same-length
     returns)

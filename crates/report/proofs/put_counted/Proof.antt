@@ -37,9 +37,6 @@ put-byte-requires c κs =
     let l : length (q .last .1 .0) ≡ length (p .last .1 .0) = q .kept .1 .0 in
     omega (arith, room start, p .ensures .place, q .ensures .place)
 
-same-length : tie.Need-same-length
-same-length c = search needs
-
 returns : tie.Need-returns
 unfolding counted
 returns c =
@@ -48,4 +45,4 @@ returns c =
     wrote-then (wrote-then (p .ensures) (q .ensures)) (c .before .before .put-byte .ensures)
 
 pub put-counted-spec : {M : Type 1} → statement M
-put-counted-spec = tie.close (tie.spec put-text-requires put-decimal-requires put-byte-requires same-length returns)
+put-counted-spec = tie.close (tie.spec put-text-requires put-decimal-requires put-byte-requires (λ c. search needs) returns)

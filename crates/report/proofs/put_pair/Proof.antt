@@ -12,17 +12,8 @@ use Rattle.answers.specs.WrittenLaws.{wrote-as, wrote-then}
 use Rattle.report.proofs.put_pair.Statement.{statement}
 use Rattle.report.proofs.put_pair.Tie as tie
 
-cast-put-decimal : tie.Need-cast-put-decimal
-cast-put-decimal c = search needs
-
 put-decimal-requires : tie.Need-put-decimal-requires
 put-decimal-requires c κs = omega (arith, length-decimal 6 (c .before .before .args .w / 1024) (omega arith))
-
-slice-aggregate-put-counted : tie.Need-slice-aggregate-put-counted
-slice-aggregate-put-counted c = search needs
-
-cast-put-counted : tie.Need-cast-put-counted
-cast-put-counted c = search needs
 
 put-counted-requires : tie.Need-put-counted-requires
 put-counted-requires c κs =
@@ -35,9 +26,6 @@ put-counted-requires c κs =
     let t = length-decimal 3 (w % 1024) (omega arith) in
     omega (arith, length-counted (space ∷ []) (w % 1024), p .ensures .place)
 
-same-length : tie.Need-same-length
-same-length c = search needs
-
 returns : tie.Need-returns
 returns c =
     let w = c .before .before .before .before .before .before .before .before .before .before .args .w in
@@ -48,10 +36,9 @@ pub put-pair-spec : {M : Type 1} → statement M
 put-pair-spec =
     tie.close
     (tie.spec
-    cast-put-decimal
+    (λ c. search needs)
     put-decimal-requires
-    slice-aggregate-put-counted
-    cast-put-counted
+    (λ c. search needs) (λ c. search needs)
     put-counted-requires
-    same-length
+    (λ c. search needs)
     returns)

@@ -33,21 +33,6 @@ loop-holds c =
     let most = length-counted-most (bytes "pairs ") (start .args .total) (omega arith) in
     lined-none (omega (arith, p .ensures .place))
 
-mul-put-pair : tie.Need-mul-put-pair Inv-loop μ-loop
-mul-put-pair c = omega arith
-
-shared-slice-read-put-pair : tie.Need-shared-slice-read-put-pair Inv-loop μ-loop
-shared-slice-read-put-pair c = omega arith
-
-put-pair-requires : tie.Need-put-pair-requires Inv-loop μ-loop
-put-pair-requires c κs = omega arith
-
-add-i : tie.Need-add-i Inv-loop μ-loop
-add-i c = omega arith
-
-loop-less : tie.Need-loop-less Inv-loop μ-loop
-loop-less c = omega arith
-
 loop-again : tie.Need-loop-again Inv-loop μ-loop
 loop-again c =
     let here = c .before .before .before .before .before .before .loop in
@@ -71,11 +56,7 @@ put-pairs-spec =
     slice-aggregate-put-counted
     put-counted-requires
     loop-holds
-    mul-put-pair
-    shared-slice-read-put-pair
-    put-pair-requires
-    add-i
-    loop-less
+    (λ c. omega arith) (λ c. omega arith) (λ c κs. omega arith) (λ c. omega arith) (λ c. omega arith)
     loop-again
     same-length
     returns)

@@ -6,19 +6,13 @@ use Rattle.report.specs.ReportLaws.{length-counted-most}
 use Rattle.report.proofs.put_refused.Statement.{statement}
 use Rattle.report.proofs.put_refused.Tie as tie
 
-slice-aggregate-put-counted : tie.Need-slice-aggregate-put-counted
-slice-aggregate-put-counted c = search needs
-
 put-counted-requires : tie.Need-put-counted-requires
 unfolding bytes
 put-counted-requires c κs = omega (arith, length-counted-most (bytes "refused ") (c .before .before .before .args .k) (omega arith))
-
-same-length : tie.Need-same-length
-same-length c = search needs
 
 returns : tie.Need-returns
 unfolding bytes refusedText
 returns c = c .before .before .put-counted .ensures
 
 pub put-refused-spec : {M : Type 1} → statement M
-put-refused-spec = tie.close (tie.spec slice-aggregate-put-counted put-counted-requires same-length returns)
+put-refused-spec = tie.close (tie.spec (λ c. search needs) put-counted-requires (λ c. search needs) returns)

@@ -8,26 +8,11 @@ use Rattle.report.specs.ReportLaws.{length-decimal, length-counted}
 use Rattle.report.proofs.put_step.Statement.{statement}
 use Rattle.report.proofs.put_step.Tie as tie
 
-label-letter-requires : tie.Need-label-letter-requires
-label-letter-requires c κs = search needs
-
-sense-sign-requires : tie.Need-sense-sign-requires
-sense-sign-requires c κs = search needs
-
-slice-aggregate-put-counted : tie.Need-slice-aggregate-put-counted
-slice-aggregate-put-counted c = search needs
-
-cast-put-counted : tie.Need-cast-put-counted
-cast-put-counted c = search needs
-
 put-counted-requires : tie.Need-put-counted-requires
 put-counted-requires c κs =
     let w = c .before .before .before .before .before .args .w in
     let t = length-decimal 3 (w % 1024) (omega arith) in
     omega (arith, length-counted (c .before .before .before .label-letter .result ∷ space ∷ c .before .before .sense-sign .result ∷ space ∷ []) (w % 1024))
-
-same-length : tie.Need-same-length
-same-length c = search needs
 
 returns : tie.Need-returns
 unfolding counted stepLine
@@ -39,10 +24,7 @@ pub put-step-spec : {M : Type 1} → statement M
 put-step-spec =
     tie.close
     (tie.spec
-    label-letter-requires
-    sense-sign-requires
-    slice-aggregate-put-counted
-    cast-put-counted
+    (λ c κs. search needs) (λ c κs. search needs) (λ c. search needs) (λ c. search needs)
     put-counted-requires
-    same-length
+    (λ c. search needs)
     returns)

@@ -4,17 +4,11 @@ use borrow.Author.Needs.{needs}
 use Rattle.rowpairs.proofs.every_if.Statement.{statement}
 use Rattle.rowpairs.proofs.every_if.Tie as tie
 
--- src/lib.rt:44:9
-shr-if1 : tie.Need-shr-if1
-shr-if1 c = search needs
-
--- src/lib.rt:45:9
 returns : tie.Need-returns
 returns c = every-true (c .before .args .set) (c .before .args .label) (c .if1 .taken)
 
--- src/lib.rt:40:1
 returns-2 : tie.Need-returns-2
 returns-2 c = every-false (c .before .args .set) (c .before .args .label) (c .if1 .left)
 
 pub every-if-spec : {M : Type 1} → statement M
-every-if-spec = tie.close (tie.spec shr-if1 returns returns-2)
+every-if-spec = tie.close (tie.spec (λ c. search needs) returns returns-2)

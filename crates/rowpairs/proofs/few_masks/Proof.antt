@@ -11,9 +11,6 @@ use Rattle.rowpairs.proofs.few_masks.Tie as tie
 product : (c : tie.After-lesser) → c .lesser .result * c .before .args .n ≤ 19456
 product c = mul-le-mul {n₂ = 19} {m₂ = 1024} (c .lesser .ensures .0) (c .before .pre)
 
-lesser-requires : tie.Need-lesser-requires
-lesser-requires c κs = search needs
-
 mul-result : tie.Need-mul-result
 mul-result c = omega (arith, product c)
 
@@ -31,4 +28,4 @@ returns c =
     omega arith
 
 pub few-masks-spec : {M : Type 1} → statement M
-few-masks-spec = tie.close (tie.spec lesser-requires mul-result add-result returns)
+few-masks-spec = tie.close (tie.spec (λ c κs. search needs) mul-result add-result returns)

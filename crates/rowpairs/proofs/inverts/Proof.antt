@@ -7,31 +7,12 @@ use borrow.Author.Needs.{needs}
 use Rattle.rowpairs.proofs.inverts.Statement.{statement}
 use Rattle.rowpairs.proofs.inverts.Tie as tie
 
--- src/lib.rt:166:9
 returns : tie.Need-returns
 returns c = λ e. absurd (let z : _≡_ {A = ℕ} 0 1 = ap bit e in omega arith)
 
--- src/lib.rt:168:32
-mul-item-of : tie.Need-mul-item-of
-mul-item-of c = search needs
-
--- src/lib.rt:168:32
-shared-slice-read-item-of : tie.Need-shared-slice-read-item-of
-shared-slice-read-item-of c = search needs
-
--- src/lib.rt:168:9
-item-of-requires : tie.Need-item-of-requires
-item-of-requires c κs = search needs
-
--- src/lib.rt:170:26
-enum-told : tie.Need-enum-told
-enum-told c = search needs
-
--- src/lib.rt:162:1
 returns-2 : tie.Need-returns-2
 returns-2 c = λ e. (omega (arith, c .before .before .before .before .if1 .left), sym (c .before .before .item-of .ensures) ∙ c .enum-told .given .1)
 
--- src/lib.rt:162:1
 returns-3 : tie.Need-returns-3
 returns-3 c = λ e. absurd (let z : _≡_ {A = ℕ} 0 1 = ap bit e in omega arith)
 
@@ -40,9 +21,6 @@ inverts-spec =
     tie.close
     (tie.spec
     returns
-    mul-item-of
-    shared-slice-read-item-of
-    item-of-requires
-    enum-told
+    (λ c. search needs) (λ c. search needs) (λ c κs. search needs) (λ c. search needs)
     returns-2
     returns-3)

@@ -5,11 +5,9 @@ use native.Mathlib.Omega.{arith}
 use Rattle.rowpairs.proofs.lesser.Statement.{statement}
 use Rattle.rowpairs.proofs.lesser.Tie as tie
 
--- src/lib.rt:249:9
 returns : tie.Need-returns
 returns c = (omega arith, omega arith, inl refl)
 
--- src/lib.rt:245:1
 returns-2 : tie.Need-returns-2
 returns-2 c = (omega arith, omega arith, inr refl)
 

@@ -6,27 +6,9 @@ use borrow.Author.Needs.{needs}
 use Rattle.rowpairs.proofs.letter_alone.Statement.{statement}
 use Rattle.rowpairs.proofs.letter_alone.Tie as tie
 
--- src/lib.rt:235:9
 returns : tie.Need-returns
 returns c = λ h. absurd (omega arith)
 
--- src/lib.rt:237:32
-shared-slice-read-item-of : tie.Need-shared-slice-read-item-of
-shared-slice-read-item-of c = search needs
-
--- src/lib.rt:237:9
-item-of-requires : tie.Need-item-of-requires
-item-of-requires c κs = search needs
-
--- src/lib.rt:239:23
-enum-known-item : tie.Need-enum-known-item
-enum-known-item c = search needs
-
--- src/lib.rt:239:44
-only-label-requires : tie.Need-only-label-requires
-only-label-requires c κs = search needs
-
--- src/lib.rt:231:1
 returns-2 : tie.Need-returns-2
 returns-2 c =
     let after-item-of = c .before .before .before .before in
@@ -36,7 +18,6 @@ returns-2 c =
       letter = sym (after-item-of .item-of .ensures) ∙ c .before .before .item .given .1 ∙ ap₂ Letters (o .0) (o .1);
     }
 
--- src/lib.rt:231:1
 returns-3 : tie.Need-returns-3
 returns-3 c = λ h. absurd (omega arith)
 
@@ -45,9 +26,6 @@ letter-alone-spec =
     tie.close
     (tie.spec
     returns
-    shared-slice-read-item-of
-    item-of-requires
-    enum-known-item
-    only-label-requires
+    (λ c. search needs) (λ c κs. search needs) (λ c. search needs) (λ c κs. search needs)
     returns-2
     returns-3)

@@ -1,81 +1,50 @@
--- `list_value` lists the links of a letter alone; it lends words of its own, enough by `rows-few`, where the work is too short. Assumes nothing.
-use mathlib.Core.Path.{subst}
-use Prim.Native.Nat.{ℕ, _<_}
+-- `list_value` lists the links of a letter alone, or the value that `leave_value` leaves. Assumes nothing.
+use native.Mathlib.Omega.{arith}
+use mathlib.Core.Path.{_≡_}
 use lib.ListN.{length}
-use Rattle.query.specs.WorkLaws.{rows-few}
-use Rattle.rowpairs.proofs.AnswerLaws.{alone-listed}
+use Rattle.rowpairs.proofs.StepLaws.{list-space}
+use Rattle.rowpairs.proofs.AnswerLaws.{listed-value, alone-listed}
 use borrow.Author.Needs.{needs}
 use Rattle.rowpairs.proofs.list_value.Statement.{statement}
 use Rattle.rowpairs.proofs.list_value.Tie as tie
-
-letter-alone-requires : tie.Need-letter-alone-requires
-letter-alone-requires c κs = search needs
-
-list-letter-requires : tie.Need-list-letter-requires
-list-letter-requires c κs = search needs
-
-same-length : tie.Need-same-length
-same-length c = search needs
 
 returns : tie.Need-returns
 returns c =
     let then1 = c .before .before .before .before in
     let start = then1 .before .before .before .before .before .before .before in
     let a = start .args in
-    let t = c .before .before .list-letter in
-    alone-listed (a .n) _ (a .links .now) (a .marks .now) (a .code .now) _ _ _ (then1 .before .letter-alone .ensures (then1 .if1 .taken))
-    (start .pre .3) (t .ensures)
+    alone-listed (a .n) _ (a .links .now) (a .marks .now) (a .code .now) _ _ _
+    (then1 .before .letter-alone .ensures (then1 .if1 .taken)) (start .pre .2) (c .before .before .list-letter .ensures)
 
-rows-work-requires : tie.Need-rows-work-requires
-rows-work-requires c κs = search needs
-
-slice-aggregate-list-within : tie.Need-slice-aggregate-list-within
-slice-aggregate-list-within c = search needs
-
-list-within-requires : tie.Need-list-within-requires
-list-within-requires c κs =
-    let after-rows-work = c .before .before .before in
-    let start = after-rows-work .before .before .before .before .before .before .before .before in
+list-requires : tie.Need-list-requires
+list-requires c κs =
+    let after-leave-value = c .before .before .before .before .before .before .before in
+    let start = after-leave-value .before .before .before .before .before .before .before .before .before .before in
+    let v = after-leave-value .leave-value in
+    let k : length (v .last .1 .1 .1 .1 .0) ≡ length (start .args .work .now) = v .kept .1 .1 .1 .1 .0 in
+    let j : length (v .last .1 .1 .1 .1 .1 .0) ≡ 1024 = v .kept .1 .1 .1 .1 .1 .0 in
     let P = start .pre in
-    let a = start .args in (
-      P .0,
-      rows-few (a .n) (P .1 (subst (λ (i : ℕ). length (a .work .now) < i) (after-rows-work .rows-work .ensures) (c .before .before .if2 .taken))),
-      P .2,
-      P .4,
-    )
-
-same-length-2 : tie.Need-same-length-2
-same-length-2 c = search needs
+    list-space (start .args .n) _ (length (v .last .1 .1 .1 .1 .0)) (length (v .last .1 .1 .1 .1 .1 .0)) (c .before .row-width .ensures)
+    (record { small = P .0 .small; front = omega (arith, P .1 .front, k) }) (omega (arith, P .0 .small, j))
 
 returns-2 : tie.Need-returns-2
-returns-2 c = search needs
-
-list-within-requires-2 : tie.Need-list-within-requires-2
-list-within-requires-2 c κs = search needs
-
-same-length-3 : tie.Need-same-length-3
-same-length-3 c = search needs
-
-same-length-4 : tie.Need-same-length-4
-same-length-4 c = search needs
-
-returns-3 : tie.Need-returns-3
-returns-3 c = search needs
+returns-2 c =
+    let after-row-width = c .before .before .before .before in
+    let after-leave-value = after-row-width .before .before .before .before .before .before in
+    let start = after-leave-value .before .before .before .before .before .before .before .before .before .before in
+    let a = start .args in
+    let v = after-leave-value .leave-value in
+    let t = c .before .before .list2 in
+    listed-value (a .n) _ (a .links .now) (a .marks .now) (a .code .now) (v .last .1 .1 .1 .1 .0) (v .last .1 .1 .1 .1 .1 .0)
+    (after-row-width .row-width .ensures) (start .pre .0 .small) (v .ensures) _ _ _ (t .ensures .0) (t .ensures .1)
 
 pub list-value-spec : {M : Type 1} → statement M
 list-value-spec =
     tie.close
     (tie.spec
-    letter-alone-requires
-    list-letter-requires
-    same-length
+    (λ c κs. search needs) (λ c κs. search needs) (λ c. search needs)
     returns
-    rows-work-requires
-    slice-aggregate-list-within
-    list-within-requires
-    same-length-2
-    returns-2
-    list-within-requires-2
-    same-length-3
-    same-length-4
-    returns-3)
+    (λ c. search needs) (λ c κs. search needs) (λ c. search needs) (λ c κs. search needs)
+    list-requires
+    (λ c. search needs) (λ c. search needs)
+    returns-2)

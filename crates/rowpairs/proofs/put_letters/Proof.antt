@@ -19,19 +19,9 @@ Inv-loop links forward against cells₀ masks₀ n w label₀ cells masks label 
 abbrev μ-loop : tie.MeasureT-loop
 μ-loop links forward against cells₀ masks₀ n w label₀ cells masks label = 26 - label
 
--- src/lib.rt:66:5
 loop-holds : tie.Need-loop-holds Inv-loop μ-loop
 loop-holds c = (omega arith, refl, refl, put-begins _ _ _ _ _ _ _)
 
--- src/lib.rt:67:13
-every-if-requires : tie.Need-every-if-requires Inv-loop μ-loop
-every-if-requires c κs = omega arith
-
--- src/lib.rt:68:13
-every-if-requires-2 : tie.Need-every-if-requires-2 Inv-loop μ-loop
-every-if-requires-2 c κs = omega arith
-
--- src/lib.rt:69:12
 add-if1 : tie.Need-add-if1 Inv-loop μ-loop
 add-if1 c =
     let at-loop = c .before .before .before in
@@ -44,26 +34,12 @@ add-if1 c =
       c .every-if2 .ensures,
     )
 
--- src/lib.rt:70:17
-label-part-requires : tie.Need-label-part-requires Inv-loop μ-loop
-label-part-requires c κs = search needs
-
--- src/lib.rt:71:13
 put-letters-requires : tie.Need-put-letters-requires Inv-loop μ-loop
 put-letters-requires c κs =
     let P = c .before .before .before .before .before .before .before .before .before .before .before .pre in
     let l = c .before .before .before .before .before .before .before .loop in
-    (P .small, P .narrow, P .wide, omega (arith, P .words, l .inv .1), omega (arith, P .marks, l .inv .2))
+    omega (arith, P, l .inv .1, l .inv .2)
 
--- src/lib.rt:73:9
-add-label : tie.Need-add-label Inv-loop μ-loop
-add-label c = omega arith
-
--- src/lib.rt:66:5
-loop-less : tie.Need-loop-less Inv-loop μ-loop
-loop-less c = omega arith
-
--- src/lib.rt:66:5
 loop-again : tie.Need-loop-again Inv-loop μ-loop
 loop-again c =
     let a = c .before .before .before .before .before .before .before .before .args in
@@ -95,15 +71,12 @@ loop-again c =
     ))
     (c .if1 .came)
 
--- src/lib.rt:51:1
 same-length : tie.Need-same-length Inv-loop μ-loop
 same-length c = c .before .loop .inv .1
 
--- src/lib.rt:51:1
 same-length-2 : tie.Need-same-length-2 Inv-loop μ-loop
 same-length-2 c = c .before .loop .inv .2
 
--- src/lib.rt:51:1
 returns : tie.Need-returns Inv-loop μ-loop
 returns c =
     let a = c .before .before .before .before .before .args in
@@ -117,13 +90,11 @@ put-letters-spec =
     Inv-loop
     μ-loop
     loop-holds
-    every-if-requires
-    every-if-requires-2
+    (λ c κs. omega arith) (λ c κs. omega arith)
     add-if1
-    label-part-requires
+    (λ c κs. search needs)
     put-letters-requires
-    add-label
-    loop-less
+    (λ c. omega arith) (λ c. omega arith)
     loop-again
     same-length
     same-length-2

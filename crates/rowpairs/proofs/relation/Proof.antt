@@ -52,24 +52,6 @@ enough c =
     let start = c .before .before .before .before .before .before .before .before .before .before .before in
     subst (λ (i : ℕ). i ≤ length (start .args .work .now)) (c .before .pairs-work .ensures) (omega (arith, c .if1 .left))
 
-read-requires : tie.Need-read-requires
-read-requires c κs = search needs
-
-enum-known-answer : tie.Need-enum-known-answer
-enum-known-answer c = search needs
-
-cast-t17 : tie.Need-cast-t17
-cast-t17 c = search needs
-
-enum-known-answer-2 : tie.Need-enum-known-answer-2
-enum-known-answer-2 c = search needs
-
-size-requires : tie.Need-size-requires
-size-requires c κs = search needs
-
-pairs-work-requires : tie.Need-pairs-work-requires
-pairs-work-requires c κs = search needs
-
 returns : tie.Need-returns
 returns c =
     let start = c .before .before .before .before .before .before .before .before .before .before .before in
@@ -84,20 +66,8 @@ returns-2 c =
     let q = read (c .before .before .before .before .before) in
     relates-few _ _ _ _ (q .0) (q .1) (n .result) (n .ensures .size) (enough (c .before)) (c .if2 .taken)
 
-links-requires : tie.Need-links-requires
-links-requires c κs = search needs
-
-marks-requires : tie.Need-marks-requires
-marks-requires c κs = search needs
-
-array-share-prefix-array : tie.Need-array-share-prefix-array
-array-share-prefix-array c = search needs
-
 slice-aggregate-spread-value : tie.Need-slice-aggregate-spread-value
 slice-aggregate-spread-value c = sym (length-take-le _ _ (in-words (c .before .before .before)))
-
-slice-aggregate-spread-value-2 : tie.Need-slice-aggregate-spread-value-2
-slice-aggregate-spread-value-2 c = search needs
 
 array-share-prefix-code : tie.Need-array-share-prefix-code
 array-share-prefix-code c =
@@ -110,9 +80,6 @@ slice-aggregate-spread-value-3 c =
     let after-answer2 = c .before .before .before .before .before .before .before .before .before .before .before in
     let after-read = after-answer2 .before .before .before in
     sym (length-take-le _ _ (omega (arith, code-length after-read, read after-answer2 .3)))
-
-slice-relend-prefix-spread-value : tie.Need-slice-relend-prefix-spread-value
-slice-relend-prefix-spread-value c = search needs
 
 slice-aggregate-spread-value-4 : tie.Need-slice-aggregate-spread-value-4
 slice-aggregate-spread-value-4 c =
@@ -139,12 +106,6 @@ spread-value-requires c κs =
 returns-3 : tie.Need-returns-3
 returns-3 c = relates-faulty _ _ _ _ _ (sym (c .before .before .before .before .read .ensures .answered) ∙ c .before .answer .given .1)
 
-same-length : tie.Need-same-length
-same-length c = search needs
-
-same-length-2 : tie.Need-same-length-2
-same-length-2 c = search needs
-
 returns-4 : tie.Need-returns-4
 returns-4 c =
     let after-spread-value = c .before .before .before .before in
@@ -164,25 +125,17 @@ pub relation-spec : {M : Type 1} → statement M
 relation-spec =
     tie.close
     (tie.spec
-    read-requires
-    enum-known-answer
-    cast-t17
-    enum-known-answer-2
-    size-requires
-    pairs-work-requires
+    (λ c κs. search needs) (λ c. search needs) (λ c. search needs) (λ c. search needs) (λ c κs. search needs) (λ c κs. search needs)
     returns
     returns-2
-    links-requires
-    marks-requires
-    array-share-prefix-array
+    (λ c κs. search needs) (λ c κs. search needs) (λ c. search needs)
     slice-aggregate-spread-value
-    slice-aggregate-spread-value-2
+    (λ c. search needs)
     array-share-prefix-code
     slice-aggregate-spread-value-3
-    slice-relend-prefix-spread-value
+    (λ c. search needs)
     slice-aggregate-spread-value-4
     spread-value-requires
     returns-3
-    same-length
-    same-length-2
+    (λ c. search needs) (λ c. search needs)
     returns-4)

@@ -23,15 +23,9 @@ used : (c : tie.After-next-item Inv-loop μ-loop)
     × (c .before .before .loop .i + c .next-item .result .used ≤ length (start .args .code .now))
 used c = let l = c .before .before .loop in reading-used _ _ _ _ (l .i) (omega arith) (l .inv .3) (c .next-item .ensures)
 
--- src/lib.rt:200:5
 loop-holds : tie.Need-loop-holds Inv-loop μ-loop
 loop-holds c = (omega arith, refl, refl, going-begins _ _ _ _ (c .before .before .before .before .before .pre .2 .2) _ _)
 
--- src/lib.rt:201:13
-next-item-requires : tie.Need-next-item-requires Inv-loop μ-loop
-next-item-requires c κs = omega arith
-
--- src/lib.rt:203:9
 step-requires : tie.Need-step-requires Inv-loop μ-loop
 step-requires c κs =
     let l = c .before .before .before .before .loop in
@@ -43,15 +37,12 @@ step-requires c κs =
       start .pre .1,
     )
 
--- src/lib.rt:204:9
 add-i : tie.Need-add-i Inv-loop μ-loop
 add-i c = omega (arith, used (c .before .before .before .before .before .before .before .before))
 
--- src/lib.rt:200:5
 loop-less : tie.Need-loop-less Inv-loop μ-loop
 loop-less c = omega (arith, used (c .before .before .before .before .before .before .before .before))
 
--- src/lib.rt:200:5
 loop-again : tie.Need-loop-again Inv-loop μ-loop
 loop-again c =
     let after-step = c .before .before .before .before .before in
@@ -64,15 +55,12 @@ loop-again c =
       reading-more _ _ _ _ (l .i) (omega arith) (l .inv .3) (after-next-item .next-item .ensures) (s .ensures),
     )
 
--- src/lib.rt:194:1
 same-length : tie.Need-same-length Inv-loop μ-loop
 same-length c = c .before .loop .inv .1
 
--- src/lib.rt:194:1
 same-length-2 : tie.Need-same-length-2 Inv-loop μ-loop
 same-length-2 c = c .before .loop .inv .2
 
--- src/lib.rt:194:1
 returns : tie.Need-returns Inv-loop μ-loop
 returns c =
     let l = c .before .loop in
@@ -85,7 +73,7 @@ run-spec =
     Inv-loop
     μ-loop
     loop-holds
-    next-item-requires
+    (λ c κs. omega arith)
     step-requires
     add-i
     loop-less

@@ -7,12 +7,6 @@ use borrow.Author.Needs.{needs}
 use Rattle.rowpairs.proofs.spread_value.Statement.{statement}
 use Rattle.rowpairs.proofs.spread_value.Tie as tie
 
-rows-work-requires : tie.Need-rows-work-requires
-rows-work-requires c κs = search needs
-
-slice-aggregate-spread-within : tie.Need-slice-aggregate-spread-within
-slice-aggregate-spread-within c = search needs
-
 spread-within-requires : tie.Need-spread-within-requires
 spread-within-requires c κs =
     let after-rows-work = c .before .before .before in
@@ -26,34 +20,10 @@ spread-within-requires c κs =
       P .4,
     )
 
-same-length : tie.Need-same-length
-same-length c = search needs
-
-returns : tie.Need-returns
-returns c = search needs
-
-spread-within-requires-2 : tie.Need-spread-within-requires-2
-spread-within-requires-2 c κs = search needs
-
-same-length-2 : tie.Need-same-length-2
-same-length-2 c = search needs
-
-same-length-3 : tie.Need-same-length-3
-same-length-3 c = search needs
-
-returns-2 : tie.Need-returns-2
-returns-2 c = search needs
-
 pub spread-value-spec : {M : Type 1} → statement M
 spread-value-spec =
     tie.close
     (tie.spec
-    rows-work-requires
-    slice-aggregate-spread-within
+    (λ c κs. search needs) (λ c. search needs)
     spread-within-requires
-    same-length
-    returns
-    spread-within-requires-2
-    same-length-2
-    same-length-3
-    returns-2)
+    (λ c. search needs) (λ c. search needs) (λ c κs. search needs) (λ c. search needs) (λ c. search needs) (λ c. search needs))

@@ -21,9 +21,6 @@ lent c =
     let j : length (c .run .last .1 .1 .1 .0) ≡ 20481 = c .run .kept .1 .1 .1 .0 in
     record { small = start .pre .0; words = omega (arith, start .pre .1, k); marks = omega (arith, start .pre .0, j) }
 
-slice-aggregate-run : tie.Need-slice-aggregate-run
-slice-aggregate-run c = search needs
-
 run-requires : tie.Need-run-requires
 run-requires c κs =
     let start = c .before .before .before .before .before .before .before in
@@ -37,24 +34,15 @@ run-requires c κs =
       P .4,
     )
 
-slice-aggregate-spread : tie.Need-slice-aggregate-spread
-slice-aggregate-spread c = search needs
-
-row-width-requires : tie.Need-row-width-requires
-row-width-requires c κs = search needs
-
 spread-requires : tie.Need-spread-requires
 spread-requires c κs =
     let after-run = c .before .before .before .before .before .before .before in
     let start = after-run .before .before .before .before .before .before .before .before in
-    let s = list-space _ _ 0 _ _ (c .before .row-width .ensures) (lent after-run) in
-    (s .0, s .1, s .2, s .3, s .4, start .pre .3)
-
-same-length : tie.Need-same-length
-same-length c = search needs
-
-same-length-2 : tie.Need-same-length-2
-same-length-2 c = search needs
+    let L = lent after-run in (
+      list-space (start .args .n) _ (length (after-run .run .last .1 .1 .0)) (length (after-run .run .last .1 .1 .1 .0)) (c .before .row-width .ensures)
+          (record { small = L .small; front = omega (arith, L .words) }) (omega (arith, L .marks)),
+      start .pre .3,
+    )
 
 returns : tie.Need-returns
 returns c =
@@ -71,11 +59,9 @@ pub spread-within-spec : {M : Type 1} → statement M
 spread-within-spec =
     tie.close
     (tie.spec
-    slice-aggregate-run
+    (λ c. search needs)
     run-requires
-    slice-aggregate-spread
-    row-width-requires
+    (λ c. search needs) (λ c κs. search needs)
     spread-requires
-    same-length
-    same-length-2
+    (λ c. search needs) (λ c. search needs)
     returns)

@@ -45,69 +45,42 @@ marks c =
       omega (arith, lent c .marks, suc-mul (start .args .count - c .operands-of .result) (start .args .n)),
     )
 
--- src/lib.rt:111:9
-row-width-requires : tie.Need-row-width-requires
-row-width-requires c κs = search needs
-
--- src/lib.rt:112:16
 mul-unit : tie.Need-mul-unit
 mul-unit c =
     let start = c .before .before .before .before .before in
     let w : c .row-width .result ≡ rowWidth (start .args .n) = c .row-width .ensures in rw w (omega (arith, unit-le (start .args .n) (start .pre .0 .small)))
 
--- src/lib.rt:113:25
-operands-of-requires : tie.Need-operands-of-requires
-operands-of-requires c κs = search needs
-
--- src/lib.rt:113:17
 sub-below : tie.Need-sub-below
 sub-below c = omega (arith, c .operands-of .ensures, c .before .before .before .before .before .before .pre .1 .found)
 
--- src/lib.rt:114:17
 mul-start : tie.Need-mul-start
 mul-start c =
     let start = c .before .before .before .before .before .before in
     omega (arith, starts c, unit-le (start .args .n) (start .pre .0 .small))
 
--- src/lib.rt:115:16
 mul-mark : tie.Need-mul-mark
 mul-mark c = omega (arith, marks c, c .before .before .before .before .before .before .pre .0 .small)
 
--- src/lib.rt:119:9
 mul-operate : tie.Need-mul-operate
 mul-operate c =
     let start = c .before .before .before .before .before .before in
     omega (arith, starts c, unit-le (start .args .n) (start .pre .0 .small))
 
--- src/lib.rt:119:9
 sub-operate : tie.Need-sub-operate
 sub-operate c = omega (arith, starts c, c .before .before .before .before .before .before .pre .0 .words)
 
--- src/lib.rt:119:9
 part-operate-start : tie.Need-part-operate-start
 part-operate-start c = omega (arith, starts c, c .before .before .before .before .before .before .pre .0 .words)
 
--- src/lib.rt:119:9
-part-operate-end : tie.Need-part-operate-end
-part-operate-end c = search needs
-
--- src/lib.rt:120:9
 mul-operate-2 : tie.Need-mul-operate-2
 mul-operate-2 c = omega (arith, marks (c .before), c .before .before .before .before .before .before .before .pre .0 .small)
 
--- src/lib.rt:120:9
 sub-operate-2 : tie.Need-sub-operate-2
 sub-operate-2 c = omega (arith, marks (c .before) .1)
 
--- src/lib.rt:120:9
 part-operate-start-2 : tie.Need-part-operate-start-2
 part-operate-start-2 c = omega (arith, marks (c .before) .1)
 
--- src/lib.rt:120:9
-part-operate-end-2 : tie.Need-part-operate-end-2
-part-operate-end-2 c = search needs
-
--- src/lib.rt:116:5
 operate-requires : tie.Need-operate-requires
 operate-requires c κs =
     let after-row-width = c .before .before .before in
@@ -117,19 +90,9 @@ operate-requires c κs =
       start .pre .2,
     )
 
--- src/lib.rt:125:5
 add-result : tie.Need-add-result
 add-result c = omega (arith, early (c .before .before .before .before .before .before .before))
 
--- src/lib.rt:99:1
-same-length : tie.Need-same-length
-same-length c = search needs
-
--- src/lib.rt:99:1
-same-length-2 : tie.Need-same-length-2
-same-length-2 c = search needs
-
--- src/lib.rt:99:1
 returns : tie.Need-returns
 returns c =
     let after-operate = c .before .before .before .before in
@@ -146,22 +109,21 @@ pub step-spec : {M : Type 1} → statement M
 step-spec =
     tie.close
     (tie.spec
-    row-width-requires
+    (λ c κs. search needs)
     mul-unit
-    operands-of-requires
+    (λ c κs. search needs)
     sub-below
     mul-start
     mul-mark
     mul-operate
     sub-operate
     part-operate-start
-    part-operate-end
+    (λ c. search needs)
     mul-operate-2
     sub-operate-2
     part-operate-start-2
-    part-operate-end-2
+    (λ c. search needs)
     operate-requires
     add-result
-    same-length
-    same-length-2
+    (λ c. search needs) (λ c. search needs)
     returns)

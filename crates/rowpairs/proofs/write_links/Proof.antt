@@ -6,7 +6,7 @@ use native.Mathlib.Omega.{arith}
 use borrow.Author.Needs.{needs}
 use Prim.Native.Nat.{_-_, _≤_}
 use lib.ListN.{length, take, drop, length-set}
-use Rattle.rows.specs.Rows.{linkPair}
+use Rattle.links.specs.Links.{linkPair}
 use Rattle.rowpairs.proofs.LoneLetterLaws.{written-more, written-all}
 use Rattle.rowpairs.proofs.write_links.Statement.{statement}
 use Rattle.rowpairs.proofs.write_links.Tie as tie
@@ -17,39 +17,24 @@ Inv-loop words list₀ count i₀ list i = (i ≤ count) × (length list ≡ len
 abbrev μ-loop : tie.MeasureT-loop
 μ-loop words list₀ count i₀ list i = count - i
 
--- src/lib.rt:259:9
-lesser-requires : tie.Need-lesser-requires Inv-loop μ-loop
-lesser-requires c κs = search needs
-
--- src/lib.rt:261:5
 loop-holds : tie.Need-loop-holds Inv-loop μ-loop
 loop-holds c = (omega arith, refl, refl)
 
--- src/lib.rt:262:19
 mul-list : tie.Need-mul-list Inv-loop μ-loop
 mul-list c = omega (arith, c .before .before .lesser .ensures .0)
 
--- src/lib.rt:262:19
 shared-slice-read-list : tie.Need-shared-slice-read-list Inv-loop μ-loop
 shared-slice-read-list c = omega (arith, c .before .before .before .lesser .ensures .0)
 
--- src/lib.rt:262:9
 mul-list-2 : tie.Need-mul-list-2 Inv-loop μ-loop
 mul-list-2 c = omega (arith, c .before .before .before .lesser .ensures .1, c .before .before .loop .inv .1)
 
--- src/lib.rt:262:9
 slice-write-list : tie.Need-slice-write-list Inv-loop μ-loop
 slice-write-list c = omega (arith, c .before .before .before .lesser .ensures .1, c .before .before .loop .inv .1)
 
--- src/lib.rt:263:9
 add-i : tie.Need-add-i Inv-loop μ-loop
 add-i c = omega (arith, c .before .before .before .lesser .ensures .0)
 
--- src/lib.rt:261:5
-loop-less : tie.Need-loop-less Inv-loop μ-loop
-loop-less c = omega arith
-
--- src/lib.rt:261:5
 loop-again : tie.Need-loop-again Inv-loop μ-loop
 loop-again c =
     let l = c .before .before .loop in
@@ -60,11 +45,9 @@ loop-again c =
       written-more (l .i) (a .words .now) (l .list) (a .list .now) (omega (arith, o .0)) (omega (arith, o .1)) (l .inv .2),
     )
 
--- src/lib.rt:255:1
 same-length : tie.Need-same-length Inv-loop μ-loop
 same-length c = c .before .loop .inv .1
 
--- src/lib.rt:255:1
 returns : tie.Need-returns Inv-loop μ-loop
 returns c =
     let l = c .before .loop in
@@ -78,14 +61,14 @@ write-links-spec =
     (tie.spec
     Inv-loop
     μ-loop
-    lesser-requires
+    (λ c κs. search needs)
     loop-holds
     mul-list
     shared-slice-read-list
     mul-list-2
     slice-write-list
     add-i
-    loop-less
+    (λ c. omega arith)
     loop-again
     same-length
     returns)

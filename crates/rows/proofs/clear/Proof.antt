@@ -20,24 +20,9 @@ abbrev μ-loop : tie.MeasureT-loop
 loop-holds : tie.Need-loop-holds Inv-loop μ-loop
 loop-holds c = (omega arith, written-none)
 
-mul-rows : tie.Need-mul-rows Inv-loop μ-loop
-mul-rows c = omega arith
-
-slice-write-rows : tie.Need-slice-write-rows Inv-loop μ-loop
-slice-write-rows c = omega arith
-
-add-i : tie.Need-add-i Inv-loop μ-loop
-add-i c = omega arith
-
-loop-less : tie.Need-loop-less Inv-loop μ-loop
-loop-less c = omega arith
-
 loop-again : tie.Need-loop-again Inv-loop μ-loop
 unfolding none
 loop-again c = (omega arith, written-more (λ (w : ℕ). 0) (omega arith) (c .before .loop .inv .1) (λ k h. digit-none k))
-
-same-length : tie.Need-same-length Inv-loop μ-loop
-same-length c = search needs
 
 returns : tie.Need-returns Inv-loop μ-loop
 returns c = written-all (omega arith) (c .before .loop .inv .1) (λ p h. unfold none in refl) ∙ sym flat-none
@@ -49,10 +34,7 @@ clear-spec =
     Inv-loop
     μ-loop
     loop-holds
-    mul-rows
-    slice-write-rows
-    add-i
-    loop-less
+    (λ c. omega arith) (λ c. omega arith) (λ c. omega arith) (λ c. omega arith)
     loop-again
-    same-length
+    (λ c. search needs)
     returns)

@@ -24,9 +24,6 @@ Inv-loop a₀ columns n list m i₀ a i =
 abbrev μ-loop : tie.MeasureT-loop
 μ-loop a₀ columns n list m i₀ a i = n - i
 
-slice-aggregate-occupied : tie.Need-slice-aggregate-occupied Inv-loop μ-loop
-slice-aggregate-occupied c = omega arith
-
 occupied-requires : tie.Need-occupied-requires Inv-loop μ-loop
 occupied-requires c κs = (omega arith, omega arith, refl)
 
@@ -36,28 +33,13 @@ loop-holds c = (omega arith, refl, λ x y X Y ex ey. ex ∙ ap flat (sym (to-non
 squares-requires : tie.Need-squares-requires Inv-loop μ-loop
 squares-requires c κs = (omega arith, omega arith)
 
-slice-aggregate-product-row : tie.Need-slice-aggregate-product-row Inv-loop μ-loop
-slice-aggregate-product-row c = omega arith
-
-slice-aggregate-product-row-2 : tie.Need-slice-aggregate-product-row-2 Inv-loop μ-loop
-slice-aggregate-product-row-2 c = omega arith
-
 product-row-requires : tie.Need-product-row-requires Inv-loop μ-loop
 product-row-requires c κs =
     let o = c .before .before .before .before .before .before .before .before .before .occupied in
     (omega arith, omega arith, c .before .before .before .before .squares .ensures .0, omega arith, o .kept .1 .1 .0, o .ensures .0, refl)
 
-slice-aggregate-store-row : tie.Need-slice-aggregate-store-row Inv-loop μ-loop
-slice-aggregate-store-row c = omega arith
-
 store-row-requires : tie.Need-store-row-requires Inv-loop μ-loop
 store-row-requires c κs = (c .before .before .before .product-row .kept .1 .1 .1 .1 .1 .1 .0, omega arith, omega arith)
-
-add-i : tie.Need-add-i Inv-loop μ-loop
-add-i c = omega arith
-
-loop-less : tie.Need-loop-less Inv-loop μ-loop
-loop-less c = omega arith
 
 loop-again : tie.Need-loop-again Inv-loop μ-loop
 loop-again c =
@@ -87,9 +69,6 @@ loop-again c =
     ))
     (c .if1 .came)
 
-same-length : tie.Need-same-length Inv-loop μ-loop
-same-length c = search needs
-
 returns : tie.Need-returns Inv-loop μ-loop
 returns c =
     let l = c .before .loop in
@@ -103,17 +82,15 @@ compose-spec =
     (tie.spec
     Inv-loop
     μ-loop
-    slice-aggregate-occupied
+    (λ c. omega arith)
     occupied-requires
     loop-holds
     squares-requires
-    slice-aggregate-product-row
-    slice-aggregate-product-row-2
+    (λ c. omega arith) (λ c. omega arith)
     product-row-requires
-    slice-aggregate-store-row
+    (λ c. omega arith)
     store-row-requires
-    add-i
-    loop-less
+    (λ c. omega arith) (λ c. omega arith)
     loop-again
-    same-length
+    (λ c. search needs)
     returns)

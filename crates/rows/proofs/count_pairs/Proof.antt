@@ -8,9 +8,6 @@ use Rattle.rows.proofs.ListingLaws.{places-length}
 use Rattle.rows.proofs.count_pairs.Statement.{statement}
 use Rattle.rows.proofs.count_pairs.Tie as tie
 
-mul-rank : tie.Need-mul-rank
-mul-rank c = omega arith
-
 rank-requires : tie.Need-rank-requires
 rank-requires c κs = tt
 
@@ -20,4 +17,4 @@ returns c =
     c .rank .ensures ∙ sym (places-length (bitAt (a .rows .now)) (bit-lt (a .rows .now)) (a .n * 1024))
 
 pub count-pairs-spec : {M : Type 1} → statement M
-count-pairs-spec = tie.close (tie.spec mul-rank rank-requires returns)
+count-pairs-spec = tie.close (tie.spec (λ c. omega arith) rank-requires returns)

@@ -10,12 +10,9 @@ use Rattle.rows.proofs.has_label.Tie as tie
 returns : tie.Need-returns
 returns c = let a = c .before .args in rw (digit-big 32 (a .label) (a .labels) (omega arith) (c .if1 .taken))
 
-shr-result : tie.Need-shr-result
-shr-result c = search needs
-
 returns-2 : tie.Need-returns-2
 unfolding digit
 returns-2 c = refl
 
 pub has-label-spec : {M : Type 1} → statement M
-has-label-spec = tie.close (tie.spec returns shr-result returns-2)
+has-label-spec = tie.close (tie.spec returns (λ c. search needs) returns-2)

@@ -28,15 +28,6 @@ loop-holds c =
     let a = c .before .before .before .before .args in
     (omega arith, refl, λ n g o k e. e ∙ row-start (bitAt (a .a .now)) (bitAt (a .columns .now)) (a .i) n (a .m) _ o)
 
-mul-entry : tie.Need-mul-entry Inv-loop μ-loop
-mul-entry c = omega arith
-
-shared-slice-read-entry : tie.Need-shared-slice-read-entry Inv-loop μ-loop
-shared-slice-read-entry c = omega arith
-
-cast-j : tie.Need-cast-j Inv-loop μ-loop
-cast-j c = omega arith
-
 serves-requires : tie.Need-serves-requires Inv-loop μ-loop
 serves-requires c κs =
     let a = c .before .before .before .before .before .before .before .before .args in (
@@ -47,15 +38,6 @@ serves-requires c κs =
       omega arith,
       omega (arith, and-le-l (a .mask) (getD (a .list .now) (c .before .before .before .loop .t) 0 / 1024)),
     )
-
-set-bit-requires : tie.Need-set-bit-requires Inv-loop μ-loop
-set-bit-requires c κs = omega arith
-
-add-t : tie.Need-add-t Inv-loop μ-loop
-add-t c = omega arith
-
-loop-less : tie.Need-loop-less Inv-loop μ-loop
-loop-less c = omega arith
 
 loop-again : tie.Need-loop-again Inv-loop μ-loop
 loop-again c =
@@ -98,9 +80,6 @@ loop-again c =
     v)
     (c .if1 .came)
 
-same-length : tie.Need-same-length Inv-loop μ-loop
-same-length c = search needs
-
 returns : tie.Need-returns Inv-loop μ-loop
 returns c =
     let l = c .before .loop in
@@ -116,13 +95,9 @@ product-row-spec =
     Inv-loop
     μ-loop
     loop-holds
-    mul-entry
-    shared-slice-read-entry
-    cast-j
+    (λ c. omega arith) (λ c. omega arith) (λ c. omega arith)
     serves-requires
-    set-bit-requires
-    add-t
-    loop-less
+    (λ c κs. omega arith) (λ c. omega arith) (λ c. omega arith)
     loop-again
-    same-length
+    (λ c. search needs)
     returns)

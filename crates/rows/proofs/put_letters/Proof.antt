@@ -4,15 +4,19 @@
 use mathlib.Core.Path.{_≡_, refl, sym, ap, _∙_}
 use mathlib.Core.Logic.{⊎-elim}
 use mathlib.Core.List.{List}
-use Prim.Native.Nat.{ℕ, _+_, _-_, _≤_, _<_}
+use Prim.Native.Nat.{ℕ, _+_, _-_, _*_, _/_, _%_, _≤_, _<_}
 use native.Mathlib.Omega.{arith}
 use borrow.Author.Needs.{needs}
+use lib.Dec.{eqb}
 use lib.ListN.{length, take}
-use Rattle.k2.specs.Bits.{bitAt}
+use Rattle.k2.specs.Bits.{digit, bitAt}
 use Rattle.k2.specs.BitLaws.{Bits, bit-lt}
 use Rattle.k2.specs.PairSets.{Cells, union}
-use Rattle.rows.specs.Rows.{flat, linkPair, crossedWords}
-use Rattle.rows.proofs.PutLaws.{lettersOf, crossing, letters-out, crossed-forward, crossed-against, crossed-is, crossed-start, crossed-all}
+use Rattle.bits.specs.BitSets.{put}
+use Rattle.rows.specs.Rows.{flat, crossedWords}
+use Rattle.links.specs.Links.{linkPair}
+use Rattle.rows.specs.RowLaws.{crossed-all}
+use Rattle.rows.proofs.PutLaws.{lettersOf, crossing, letters-out, crossed-forward, crossed-against, crossed-is, crossed-start}
 use Rattle.rows.proofs.put_letters.Statement.{statement}
 use Rattle.rows.proofs.put_letters.Tie as tie
 
@@ -27,25 +31,17 @@ abbrev μ-loop : tie.MeasureT-loop
 loop-holds : tie.Need-loop-holds Inv-loop μ-loop
 loop-holds c = (omega arith, refl, λ x e. e ∙ ap flat (sym (crossed-start x _ _)))
 
-mul-label : tie.Need-mul-label Inv-loop μ-loop
-mul-label c = omega arith
+label-of-requires : tie.Need-label-of-requires Inv-loop μ-loop
+label-of-requires c κs = tt
 
-shared-slice-read-label : tie.Need-shared-slice-read-label Inv-loop μ-loop
-shared-slice-read-label c = omega arith
-
-mul-p : tie.Need-mul-p Inv-loop μ-loop
-mul-p c = omega arith
-
-shared-slice-read-p : tie.Need-shared-slice-read-p Inv-loop μ-loop
-shared-slice-read-p c = omega arith
-
-cast-p : tie.Need-cast-p Inv-loop μ-loop
-cast-p c = omega arith
+pair-of-requires : tie.Need-pair-of-requires Inv-loop μ-loop
+pair-of-requires c κs = tt
 
 has-label-requires : tie.Need-has-label-requires Inv-loop μ-loop
 has-label-requires c κs = tt
 
 set-bit-requires : tie.Need-set-bit-requires Inv-loop μ-loop
+unfolding linkPair
 set-bit-requires c κs = omega arith
 
 -- the rows hold the pairs of the first j words, the exchanged ones of the first i
@@ -55,17 +51,18 @@ Held words forward against rows₀ rows j i =
 
 -- the word's pair is put in forward
 forward : (c : tie.Joined1 Inv-loop μ-loop)
-    → let l = c .before .before .before .before .before .loop in
-    let a = c .before .before .before .before .before .before .before .before .args in
+    → let l = c .before .before .before .before .before .before .loop in
+    let a = c .before .before .before .before .before .before .before .before .before .args in
     (length (c .if1 .rows) ≡ length (a .rows .now))
     × Held (a .words .now) (a .forward) (a .against) (a .rows .now) (c .if1 .rows) (l .i + 1) (l .i)
 unfolding linkPair
 forward c =
-    let l = c .before .before .before .before .before .loop in
-    let a = c .before .before .before .before .before .before .before .before .args in
+    let l = c .before .before .before .before .before .before .loop in
+    let a = c .before .before .before .before .before .before .before .before .before .args in
     let ws = a .words .now in
     let qs = lettersOf (a .against) (take (l .i) ws) in
-    let r = c .before .has-label .ensures in
+    let p = c .before .before .pair-of in
+    let r = c .before .has-label .ensures ∙ ap (λ (k : ℕ). eqb (digit (a .forward) k) 1) (c .before .before .before .label-of .ensures) in
     let h : l .i < length ws = omega arith in
     let old : Held ws (a .forward) (a .against) (a .rows .now) (l .rows) (l .i) (l .i)
     = λ x e. l .inv .2 x e ∙ ap (λ (t : Cells). flat (union x t)) (crossed-is (take (l .i) ws) (a .forward) (a .against)) in
@@ -74,7 +71,8 @@ forward c =
       rw (w .5) (w .2 .kept .0 ∙ l .inv .1),
       λ x e.
           let b : Bits (flat x) = λ k. rw (← e) (bit-lt (a .rows .now) k) in
-          rw (w .5) (w .2 .ensures ∙ rw (old x e) (crossed-forward x ws (l .i) (a .forward) (a .against) h b qs (sym r ∙ w .0 .taken))),
+          rw (w .5) (w .2 .ensures ∙ ap (λ (k : ℕ). put k 1 (bitAt (l .rows))) (p .ensures)
+          ∙ rw (old x e) (crossed-forward x ws (l .i) (a .forward) (a .against) h b qs (sym r ∙ w .0 .taken))),
     ))
     (λ w. (
       rw (w .1) (l .inv .1),
@@ -85,31 +83,22 @@ forward c =
 has-label-requires-2 : tie.Need-has-label-requires-2 Inv-loop μ-loop
 has-label-requires-2 c κs = tt
 
-mul-set-bit : tie.Need-mul-set-bit Inv-loop μ-loop
-mul-set-bit c = omega arith
-
-add-set-bit : tie.Need-add-set-bit Inv-loop μ-loop
-add-set-bit c = omega arith
-
 set-bit-requires-2 : tie.Need-set-bit-requires-2 Inv-loop μ-loop
+unfolding linkPair
 set-bit-requires-2 c κs = omega (arith, forward (c .before .before .before) .0)
-
-add-i : tie.Need-add-i Inv-loop μ-loop
-add-i c = omega arith
-
-loop-less : tie.Need-loop-less Inv-loop μ-loop
-loop-less c = omega arith
 
 loop-again : tie.Need-loop-again Inv-loop μ-loop
 unfolding linkPair
 loop-again c =
-    let l = c .before .before .before .before .before .before .before .loop in
-    let a = c .before .before .before .before .before .before .before .before .before .before .args in
+    let l = c .before .before .before .before .before .before .before .before .loop in
+    let a = c .before .before .before .before .before .before .before .before .before .before .before .args in
     let ws = a .words .now in
     let ps = lettersOf (a .forward) (take (l .i + 1) ws) in
-    let r = c .before .has-label2 .ensures in
+    let joined1 = c .before .before in
+    let p = joined1 .before .before .pair-of in
+    let r = c .before .has-label2 .ensures ∙ ap (λ (k : ℕ). eqb (digit (a .against) k) 1) (joined1 .before .before .before .label-of .ensures) in
     let h : l .i < length ws = omega arith in
-    let old = forward (c .before .before) in
+    let old = forward joined1 in
     let new = sym (crossed-is (take (l .i + 1) ws) (a .forward) (a .against)) in
     ⊎-elim
     (λ w. (
@@ -117,7 +106,8 @@ loop-again c =
       rw (w .5) (w .2 .kept .0 ∙ old .0),
       λ x e.
           let b : Bits (flat x) = λ k. rw (← e) (bit-lt (a .rows .now) k) in
-          rw (w .5) (w .2 .ensures ∙ rw (old .1 x e) (crossed-against x ws (l .i) (a .forward) (a .against) h b ps (sym r ∙ w .0 .taken)
+          rw (w .5) (w .2 .ensures ∙ ap (λ (k : ℕ). put (k % 1024 * 1024 + k / 1024) 1 (bitAt (joined1 .if1 .rows))) (p .ensures)
+          ∙ rw (old .1 x e) (crossed-against x ws (l .i) (a .forward) (a .against) h b ps (sym r ∙ w .0 .taken)
           ∙ ap (λ (t : Cells). flat (union x t)) new)),
     ))
     (λ w. (
@@ -128,9 +118,6 @@ loop-again c =
           ∙ ap (λ (t : Cells). flat (union x t)) new),
     ))
     (c .if2 .came)
-
-same-length : tie.Need-same-length Inv-loop μ-loop
-same-length c = search needs
 
 returns : tie.Need-returns Inv-loop μ-loop
 returns c =
@@ -146,19 +133,16 @@ put-letters-spec =
     Inv-loop
     μ-loop
     loop-holds
-    mul-label
-    shared-slice-read-label
-    mul-p
-    shared-slice-read-p
-    cast-p
+    (λ c. omega arith) (λ c. omega arith)
+    label-of-requires
+    pair-of-requires
+    (λ c. omega arith)
     has-label-requires
     set-bit-requires
     has-label-requires-2
-    mul-set-bit
-    add-set-bit
+    (λ c. omega arith) (λ c. omega arith)
     set-bit-requires-2
-    add-i
-    loop-less
+    (λ c. omega arith) (λ c. omega arith)
     loop-again
-    same-length
+    (λ c. search needs)
     returns)

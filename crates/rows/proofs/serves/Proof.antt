@@ -42,44 +42,21 @@ search-holds c =
     let f = first-square (a .common) (omega arith) (omega arith) in
     (omega (arith, f), refl, λ g. common-first (a .a .now) (a .b .now) (a .i) (a .j) (a .common) g f)
 
-cast-search : tie.Need-cast-search Inv-loop μ-loop Inv-search μ-search
-cast-search c = omega arith
-
-shr-search : tie.Need-shr-search Inv-loop μ-loop Inv-search μ-search
-shr-search c = omega arith
-
 -- a square in common is one of the sixteen
 inside : (c : tie.In-search Inv-loop μ-loop Inv-search μ-search) → c .before .search .s < 16
 inside c = square-inside (c .before .before .args .common) (c .before .search .s) (omega arith) (c .before .search .inv .0) (c .search-test .taken)
 
-mul-row : tie.Need-mul-row Inv-loop μ-loop Inv-search μ-search
-mul-row c = omega arith
-
-add-row : tie.Need-add-row Inv-loop μ-loop Inv-search μ-search
-add-row c = omega arith
-
-mul-row-2 : tie.Need-mul-row-2 Inv-loop μ-loop Inv-search μ-search
-mul-row-2 c = omega arith
-
 shared-slice-read-row : tie.Need-shared-slice-read-row Inv-loop μ-loop Inv-search μ-search
 shared-slice-read-row c = omega (arith, inside (c .before))
-
-mul-column : tie.Need-mul-column Inv-loop μ-loop Inv-search μ-search
-mul-column c = omega arith
-
-add-column : tie.Need-add-column Inv-loop μ-loop Inv-search μ-search
-add-column c = omega arith
-
-mul-column-2 : tie.Need-mul-column-2 Inv-loop μ-loop Inv-search μ-search
-mul-column-2 c = omega arith
 
 shared-slice-read-column : tie.Need-shared-slice-read-column Inv-loop μ-loop Inv-search μ-search
 shared-slice-read-column c = omega (arith, inside (c .before .before))
 
 -- row j has a record in the square
 column-first : (c : tie.Then1 Inv-loop μ-loop Inv-search μ-search)
-    → trailingZeros 64 (getD (c .before .before .before .before .before .args .b .now)
-    (c .before .before .before .before .before .args .j * 16 + c .before .before .before .before .search .s) 0) < 64
+    → let after-search = c .before .before .before .before in
+    trailingZeros 64 (getD (after-search .before .args .b .now)
+    (after-search .before .args .j * 16 + after-search .search .s) 0) < 64
 column-first c =
     let S = c .before .before .before .before .search in
     let a = c .before .before .before .before .before .args in
@@ -160,9 +137,6 @@ loop-again c =
           (meets-record (a .a .now) (a .b .now) (a .i) (a .j) (S .s) (l .k + t) (N .0) (N .1) ∙ omega arith)),
     )
 
-add-s : tie.Need-add-s Inv-loop μ-loop Inv-search μ-search
-add-s c = omega arith
-
 search-less : tie.Need-search-less Inv-loop μ-loop Inv-search μ-search
 search-less c = omega (arith, inside (c .before .before .before))
 
@@ -213,15 +187,9 @@ serves-spec =
     μ-search
     cast-s
     search-holds
-    cast-search
-    shr-search
-    mul-row
-    add-row
-    mul-row-2
+    (λ c. omega arith) (λ c. omega arith) (λ c. omega arith) (λ c. omega arith) (λ c. omega arith)
     shared-slice-read-row
-    mul-column
-    add-column
-    mul-column-2
+    (λ c. omega arith) (λ c. omega arith) (λ c. omega arith)
     shared-slice-read-column
     cast-rest
     shr-rest
@@ -234,7 +202,7 @@ serves-spec =
     shr-rest-2
     loop-less
     loop-again
-    add-s
+    (λ c. omega arith)
     search-less
     search-again
     returns

@@ -1,86 +1,22 @@
--- `squares` tests the words of a row. The loop's invariant: the squares before s that the mask leaves out are empty. The measure is the squares
--- left. It rests on `mask-set` and `mask-skip`. Assumes nothing.
-use mathlib.Core.Path.{_≡_, ap, _∙_}
-use mathlib.Core.Logic.{⊎-elim}
-use Prim.Native.Nat.{ℕ, _≤_, _<_, _+_, _-_, _*_, _/_, _%_, _^_}
-use native.Mathlib.Nat.{one-mul}
+-- `squares` lends row i by itself, whose bits are those of the rows from there on (`row-bits`). Assumes nothing.
+use mathlib.Core.Path.{sym, _∙_}
+use Prim.Native.Nat.{_+_, _-_, _*_}
 use native.Mathlib.Omega.{arith}
-use lib.Bits.{bitOr, or-lt}
-use lib.Dec.{lit<}
-use lib.Pow.{pow-lt, shl-exact}
-use Rattle.k2.specs.Bits.{digit, bitAt}
-use Rattle.rows.proofs.SearchLaws.{mask-set, mask-skip}
+use borrow.Author.Needs.{needs}
+use Rattle.rows.proofs.SearchLaws.{row-bits}
 use Rattle.rows.proofs.squares.Statement.{statement}
 use Rattle.rows.proofs.squares.Tie as tie
 
-abbrev Inv-loop : tie.InvT-loop
-Inv-loop rows i mask₀ s₀ mask s = (s ≤ 16) × (mask < 2 ^ 16) × ((k : ℕ) → k < s * 64 → digit mask (k / 64) ≡ 0 → bitAt rows (i * 1024 + k) ≡ 0)
-
-abbrev μ-loop : tie.MeasureT-loop
-μ-loop rows i mask₀ s₀ mask s = 16 - s
-
-loop-holds : tie.Need-loop-holds Inv-loop μ-loop
-loop-holds c = (omega arith, omega arith, λ k l. absurd (omega arith))
-
-mul-if1 : tie.Need-mul-if1 Inv-loop μ-loop
-mul-if1 c = omega arith
-
-add-if1 : tie.Need-add-if1 Inv-loop μ-loop
-add-if1 c = omega arith
-
-mul-if1-2 : tie.Need-mul-if1-2 Inv-loop μ-loop
-mul-if1-2 c = omega arith
-
-shared-slice-read-if1 : tie.Need-shared-slice-read-if1 Inv-loop μ-loop
-shared-slice-read-if1 c = omega arith
-
-cast-mask : tie.Need-cast-mask Inv-loop μ-loop
-cast-mask c = omega arith
-
-shl-mask : tie.Need-shl-mask Inv-loop μ-loop
-shl-mask c = omega arith
-
-add-s : tie.Need-add-s Inv-loop μ-loop
-add-s c = omega arith
-
-loop-less : tie.Need-loop-less Inv-loop μ-loop
-loop-less c = omega arith
-
-loop-again : tie.Need-loop-again Inv-loop μ-loop
-loop-again c =
-    let l = c .before .before .before .loop in
-    let a = c .before .before .before .before .args in
-    ⊎-elim
-    (λ w.
-    let shl : (1 * 2 ^ l .s) % 2 ^ 32 ≡ 2 ^ l .s = shl-exact {a = 1} 1 (l .s) 32 (lit< tt) (omega arith) ∙ one-mul (2 ^ l .s) in
-    let e : c .if1 .mask ≡ bitOr (l .mask) (2 ^ l .s) = w .1 ∙ ap (bitOr (l .mask)) shl in (
-      omega arith,
-      rw e (or-lt 16 (l .mask) (2 ^ l .s) (l .inv .1) (pow-lt {j = 16} (omega arith))),
-      rw e (mask-set (a .rows .now) (a .i) (l .s) (l .mask) (l .inv .2)),
-    ))
-    (λ w. (omega arith, rw (w .1) (l .inv .1), rw (w .1) (mask-skip (a .rows .now) (a .i) (l .s) (l .mask) (l .inv .2) (w .0 .left))))
-    (c .if1 .came)
-
-returns : tie.Need-returns Inv-loop μ-loop
+returns : tie.Need-returns
 returns c =
-    let l = c .before .loop in
-    let e : l .s ≡ 16 = omega arith in
-    (l .inv .1, λ k h. l .inv .2 k (omega arith))
+    let a = c .before .before .before .args in
+    let m = c .filled-words .ensures in
+    (m .0, λ k h e. sym (row-bits (a .rows .now) (a .i) (a .i * 16 + 16 - a .i * 16) k (omega arith)) ∙ m .1 k h e)
 
 pub squares-spec : {M : Type 1} → statement M
 squares-spec =
     tie.close
     (tie.spec
-    Inv-loop
-    μ-loop
-    loop-holds
-    mul-if1
-    add-if1
-    mul-if1-2
-    shared-slice-read-if1
-    cast-mask
-    shl-mask
-    add-s
-    loop-less
-    loop-again
+    (λ c. search needs) (λ c. search needs) (λ c. search needs) (λ c. search needs) (λ c. search needs) (λ c. search needs) (λ c. search needs)
+    (λ c κs. search needs)
     returns)

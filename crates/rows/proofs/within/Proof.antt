@@ -24,21 +24,6 @@ abbrev μ-loop : tie.MeasureT-loop
 loop-holds : tie.Need-loop-holds Inv-loop μ-loop
 loop-holds c = (omega arith, λ j h. absurd (omega arith))
 
-mul-end : tie.Need-mul-end Inv-loop μ-loop
-mul-end c = omega arith
-
-add-end : tie.Need-add-end Inv-loop μ-loop
-add-end c = omega arith
-
-mul-next : tie.Need-mul-next Inv-loop μ-loop
-mul-next c = omega arith
-
-add-next : tie.Need-add-next Inv-loop μ-loop
-add-next c = omega arith
-
-next-requires : tie.Need-next-requires Inv-loop μ-loop
-next-requires c κs = omega arith
-
 returns : tie.Need-returns Inv-loop μ-loop
 returns c =
     let a = c .before .before .before .before .before .args in
@@ -53,12 +38,6 @@ returns c =
           absurd (omega (arith, w .1, x .low, c .if1 .taken)),
     )
 
-add-i : tie.Need-add-i Inv-loop μ-loop
-add-i c = omega arith
-
-loop-less : tie.Need-loop-less Inv-loop μ-loop
-loop-less c = omega arith
-
 loop-again : tie.Need-loop-again Inv-loop μ-loop
 loop-again c =
     let l = c .before .before .before .loop in
@@ -68,12 +47,6 @@ loop-again c =
       below-more (λ (j : ℕ). Gap (bitAt (a .rows .now)) (j * 1024 + a .n) (j * 1024 + 1024))
           (l .i) (l .inv .1) (λ k p q. x .gap k p (omega (arith, c .if1 .left))),
     )
-
-mul-next-2 : tie.Need-mul-next-2 Inv-loop μ-loop
-mul-next-2 c = omega arith
-
-next-requires-2 : tie.Need-next-requires-2 Inv-loop μ-loop
-next-requires-2 c κs = omega arith
 
 -- no bit is found exactly if there is none
 last : (n r : ℕ) (ws : List ℕ) → n ≤ 1024 → length ws ≡ 16384 → Next (bitAt ws) (n * 1024) 1048576 r → RowsOf n ws → r ≡ 1048576
@@ -103,15 +76,9 @@ within-spec =
     Inv-loop
     μ-loop
     loop-holds
-    mul-end
-    add-end
-    mul-next
-    add-next
-    next-requires
+    (λ c. omega arith) (λ c. omega arith) (λ c. omega arith) (λ c. omega arith) (λ c κs. omega arith)
     returns
-    add-i
-    loop-less
+    (λ c. omega arith) (λ c. omega arith)
     loop-again
-    mul-next-2
-    next-requires-2
+    (λ c. omega arith) (λ c κs. omega arith)
     returns-2)

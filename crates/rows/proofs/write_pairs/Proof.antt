@@ -34,18 +34,6 @@ loop-holds : tie.Need-loop-holds Inv-loop2 μ-loop2 Inv-loop μ-loop
 unfolding places
 loop-holds c = (omega arith, omega arith, refl, refl, refl)
 
-mul-loop : tie.Need-mul-loop Inv-loop2 μ-loop2 Inv-loop μ-loop
-mul-loop c = omega arith
-
-mul-p : tie.Need-mul-p Inv-loop2 μ-loop2 Inv-loop μ-loop
-mul-p c = omega arith
-
-mul-rest : tie.Need-mul-rest Inv-loop2 μ-loop2 Inv-loop μ-loop
-mul-rest c = omega arith
-
-shared-slice-read-rest : tie.Need-shared-slice-read-rest Inv-loop2 μ-loop2 Inv-loop μ-loop
-shared-slice-read-rest c = omega arith
-
 loop2-holds : tie.Need-loop2-holds Inv-loop2 μ-loop2 Inv-loop μ-loop
 loop2-holds c =
     let start = c .before .before .before in
@@ -77,9 +65,6 @@ found c =
     bit-found (c .before .before .before .before .before .args .rows .now) (l .q) (i .p) (i .inv .0)
     f (i .rest) (trailingZeros 64 (i .rest)) (i .inv .2) (omega (arith, c .loop2-test .taken)) refl
 
-same-length : tie.Need-same-length Inv-loop2 μ-loop2 Inv-loop μ-loop
-same-length c = search needs
-
 returns : tie.Need-returns Inv-loop2 μ-loop2 Inv-loop μ-loop
 returns c =
     let l = c .before .before .before .before .before .loop in
@@ -99,15 +84,6 @@ add-p c = omega (arith, found (c .before) .0)
 
 cast-out : tie.Need-cast-out Inv-loop2 μ-loop2 Inv-loop μ-loop
 cast-out c = omega (arith, found (c .before) .0)
-
-mul-out : tie.Need-mul-out Inv-loop2 μ-loop2 Inv-loop μ-loop
-mul-out c = omega arith
-
-slice-write-out : tie.Need-slice-write-out Inv-loop2 μ-loop2 Inv-loop μ-loop
-slice-write-out c = omega arith
-
-add-t : tie.Need-add-t Inv-loop2 μ-loop2 Inv-loop μ-loop
-add-t c = omega arith
 
 add-p-2 : tie.Need-add-p-2 Inv-loop2 μ-loop2 Inv-loop μ-loop
 add-p-2 c = omega (arith, found (c .before) .0)
@@ -137,12 +113,6 @@ loop2-again c =
       rw (f .1, i .inv .5) (wrote-one L (l .out) (i .out) (i .p + trailingZeros 64 (i .rest)) h (i .inv .6)),
     )
 
-add-q : tie.Need-add-q Inv-loop2 μ-loop2 Inv-loop μ-loop
-add-q c = omega arith
-
-loop-less : tie.Need-loop-less Inv-loop2 μ-loop2 Inv-loop μ-loop
-loop-less c = omega arith
-
 loop-again : tie.Need-loop-again Inv-loop2 μ-loop2 Inv-loop μ-loop
 loop-again c =
     let l = c .before .before .before .before .loop in
@@ -159,9 +129,6 @@ loop-again c =
       rw e (wrote-on (places f (l .q * 64)) (places f (i .p)) (a .out .now) (l .out)
           (i .out) (places-longer f (l .q * 64) (i .p) (i .inv .0)) (l .inv .4) (i .inv .6)),
     )
-
-same-length-2 : tie.Need-same-length-2 Inv-loop2 μ-loop2 Inv-loop μ-loop
-same-length-2 c = omega arith
 
 returns-2 : tie.Need-returns-2 Inv-loop2 μ-loop2 Inv-loop μ-loop
 returns-2 c =
@@ -180,26 +147,20 @@ write-pairs-spec =
     Inv-loop
     μ-loop
     loop-holds
-    mul-loop
-    mul-p
-    mul-rest
-    shared-slice-read-rest
+    (λ c. omega arith) (λ c. omega arith) (λ c. omega arith) (λ c. omega arith)
     loop2-holds
-    same-length
+    (λ c. search needs)
     returns
     cast-p
     add-p
     cast-out
-    mul-out
-    slice-write-out
-    add-t
+    (λ c. omega arith) (λ c. omega arith) (λ c. omega arith)
     add-p-2
     cast-rest
     shr-rest
     loop2-less
     loop2-again
-    add-q
-    loop-less
+    (λ c. omega arith) (λ c. omega arith)
     loop-again
-    same-length-2
+    (λ c. omega arith)
     returns-2)

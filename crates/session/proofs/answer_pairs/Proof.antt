@@ -9,33 +9,12 @@ use borrow.Author.Needs.{needs}
 use Rattle.session.proofs.answer_pairs.Statement.{statement}
 use Rattle.session.proofs.answer_pairs.Tie as tie
 
-size-requires : tie.Need-size-requires
-size-requires c κs = search needs
-
-pairs-by-rows-requires : tie.Need-pairs-by-rows-requires
-pairs-by-rows-requires c κs = search needs
-
-same-length : tie.Need-same-length
-same-length c = search needs
-
-same-length-2 : tie.Need-same-length-2
-same-length-2 c = search needs
-
 returns : tie.Need-returns
 unfolding engineFor
 returns c =
     let after-pairs-by-rows = c .before .before .before .before in
     let then1 = after-pairs-by-rows .before .before .before in
     engine-answers by-rows (then1 .before .size .ensures) (rw (le-leb _ _ (then1 .if1 .taken)) refl) (after-pairs-by-rows .pairs-by-rows .ensures)
-
-pairs-requires : tie.Need-pairs-requires
-pairs-requires c κs = search needs
-
-same-length-3 : tie.Need-same-length-3
-same-length-3 c = search needs
-
-same-length-4 : tie.Need-same-length-4
-same-length-4 c = search needs
 
 returns-2 : tie.Need-returns-2
 unfolding engineFor
@@ -49,12 +28,7 @@ pub answer-pairs-spec : {M : Type 1} → statement M
 answer-pairs-spec =
     tie.close
     (tie.spec
-    size-requires
-    pairs-by-rows-requires
-    same-length
-    same-length-2
+    (λ c κs. search needs) (λ c κs. search needs) (λ c. search needs) (λ c. search needs)
     returns
-    pairs-requires
-    same-length-3
-    same-length-4
+    (λ c κs. search needs) (λ c. search needs) (λ c. search needs)
     returns-2)

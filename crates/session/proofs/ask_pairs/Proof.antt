@@ -12,12 +12,6 @@ use borrow.Author.Needs.{needs}
 use Rattle.session.proofs.ask_pairs.Statement.{statement}
 use Rattle.session.proofs.ask_pairs.Tie as tie
 
-refuse-requires : tie.Need-refuse-requires
-refuse-requires c κs = search needs
-
-same-length : tie.Need-same-length
-same-length c = search needs
-
 returns : tie.Need-returns
 unfolding nextSession printed listLeft number
 returns c =
@@ -25,21 +19,6 @@ returns c =
     let w = c .before .before .refuse in
     closed-turns (s .state) _ (now (s .list)) (now (s .list)) (now (s .out)) (w .last .1 .1 .0) (w .result) (asks (pairs (now (s .text))))
     refl (λ v t. refl) (λ v t. refl) (not-true _ (c .before .before .before .before .if1 .taken)) (w .ensures .0) refl (w .ensures .1)
-
-answer-pairs-requires : tie.Need-answer-pairs-requires
-answer-pairs-requires c κs = search needs
-
-put-listing-requires : tie.Need-put-listing-requires
-put-listing-requires c κs = search needs
-
-same-length-2 : tie.Need-same-length-2
-same-length-2 c = search needs
-
-same-length-3 : tie.Need-same-length-3
-same-length-3 c = search needs
-
-same-length-4 : tie.Need-same-length-4
-same-length-4 c = search needs
 
 returns-2 : tie.Need-returns-2
 returns-2 c =
@@ -58,12 +37,7 @@ pub ask-pairs-spec : {M : Type 1} → statement M
 ask-pairs-spec =
     tie.close
     (tie.spec
-    refuse-requires
-    same-length
+    (λ c κs. search needs) (λ c. search needs)
     returns
-    answer-pairs-requires
-    put-listing-requires
-    same-length-2
-    same-length-3
-    same-length-4
+    (λ c κs. search needs) (λ c κs. search needs) (λ c. search needs) (λ c. search needs) (λ c. search needs)
     returns-2)

@@ -10,12 +10,6 @@ use borrow.Author.Needs.{needs}
 use Rattle.session.proofs.ask_total.Statement.{statement}
 use Rattle.session.proofs.ask_total.Tie as tie
 
-refuse-requires : tie.Need-refuse-requires
-refuse-requires c κs = search needs
-
-same-length : tie.Need-same-length
-same-length c = search needs
-
 returns : tie.Need-returns
 unfolding nextSession printed listLeft number
 returns c =
@@ -23,15 +17,6 @@ returns c =
     let w = c .before .before .refuse in
     λ work l. closed-turns (s .state) work l l (now (s .out)) (w .last .1 .1 .0) (w .result) (asks (totalling (s .label))) refl
     (λ v t. refl) (λ v t. refl) (not-true _ (c .before .before .before .before .if1 .taken)) (w .ensures .0) refl (w .ensures .1)
-
-total-requires : tie.Need-total-requires
-total-requires c κs = search needs
-
-put-total-requires : tie.Need-put-total-requires
-put-total-requires c κs = search needs
-
-same-length-2 : tie.Need-same-length-2
-same-length-2 c = search needs
 
 returns-2 : tie.Need-returns-2
 returns-2 c =
@@ -45,10 +30,7 @@ pub ask-total-spec : {M : Type 1} → statement M
 ask-total-spec =
     tie.close
     (tie.spec
-    refuse-requires
-    same-length
+    (λ c κs. search needs) (λ c. search needs)
     returns
-    total-requires
-    put-total-requires
-    same-length-2
+    (λ c κs. search needs) (λ c κs. search needs) (λ c. search needs)
     returns-2)

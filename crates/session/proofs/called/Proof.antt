@@ -7,15 +7,6 @@ use Rattle.session.specs.Says.{says}
 use Rattle.session.proofs.called.Statement.{statement}
 use Rattle.session.proofs.called.Tie as tie
 
-entry-of-requires : tie.Need-entry-of-requires
-entry-of-requires c κs = search needs
-
-enum-known-entry : tie.Need-enum-known-entry
-enum-known-entry c = search needs
-
-enum-told : tie.Need-enum-told
-enum-told c = search needs
-
 returns : tie.Need-returns
 unfolding says called
 returns c = λ s. ap called (entry-call (c .before .before .before .entry-of .ensures) (c .before .entry .given .1))
@@ -25,4 +16,4 @@ unfolding says called
 returns-2 c = λ s. ap called (entry-none (c .before .before .entry-of .ensures) (c .enum-told .given .1))
 
 pub called-spec : {M : Type 1} → statement M
-called-spec = tie.close (tie.spec entry-of-requires enum-known-entry enum-told returns returns-2)
+called-spec = tie.close (tie.spec (λ c κs. search needs) (λ c. search needs) (λ c. search needs) returns returns-2)

@@ -33,63 +33,6 @@ returns c =
     let s = c .before .before .before .before .args in
     decode-unfit (s .kind) (now (s .body)) (c .before .before .shape-of .ensures) (sym (c .before .fits2 .ensures) ∙ not-true _ (c .if1 .taken))
 
-shape-of-requires : tie.Need-shape-of-requires
-shape-of-requires c κs = search needs
-
-fits-requires : tie.Need-fits-requires
-fits-requires c κs = search needs
-
-called-requires : tie.Need-called-requires
-called-requires c κs = search needs
-
-called-requires-2 : tie.Need-called-requires-2
-called-requires-2 c κs = search needs
-
-called-requires-3 : tie.Need-called-requires-3
-called-requires-3 c κs = search needs
-
-enum-told : tie.Need-enum-told
-enum-told c = search needs
-
-enum-told-2 : tie.Need-enum-told-2
-enum-told-2 c = search needs
-
-enum-told-3 : tie.Need-enum-told-3
-enum-told-3 c = search needs
-
-enum-told-4 : tie.Need-enum-told-4
-enum-told-4 c = search needs
-
-enum-told-5 : tie.Need-enum-told-5
-enum-told-5 c = search needs
-
-enum-told-6 : tie.Need-enum-told-6
-enum-told-6 c = search needs
-
-enum-told-7 : tie.Need-enum-told-7
-enum-told-7 c = search needs
-
-enum-told-8 : tie.Need-enum-told-8
-enum-told-8 c = search needs
-
-number16-requires : tie.Need-number16-requires
-number16-requires c κs = search needs
-
-number16-requires-2 : tie.Need-number16-requires-2
-number16-requires-2 c κs = search needs
-
-number16-requires-3 : tie.Need-number16-requires-3
-number16-requires-3 c κs = search needs
-
-number16-requires-4 : tie.Need-number16-requires-4
-number16-requires-4 c κs = search needs
-
-number16-requires-5 : tie.Need-number16-requires-5
-number16-requires-5 c κs = search needs
-
-number16-requires-6 : tie.Need-number16-requires-6
-number16-requires-6 c κs = search needs
-
 shared-slice-read-label : tie.Need-shared-slice-read-label
 unfolding fits
 shared-slice-read-label c =
@@ -143,28 +86,13 @@ pub decode-spec : {M : Type 1} → statement M
 decode-spec =
     tie.close
     (tie.spec
-    shape-of-requires
-    fits-requires
+    (λ c κs. search needs) (λ c κs. search needs)
     returns
-    enum-told
-    called-requires
-    enum-told-2
-    number16-requires
-    called-requires-2
-    enum-told-3
+    (λ c. search needs) (λ c κs. search needs) (λ c. search needs) (λ c κs. search needs) (λ c κs. search needs) (λ c. search needs)
     shared-slice-read-label
-    number16-requires-2
-    number16-requires-3
-    called-requires-3
-    enum-told-4
-    number16-requires-4
-    enum-told-5
+    (λ c κs. search needs) (λ c κs. search needs) (λ c κs. search needs) (λ c. search needs) (λ c κs. search needs) (λ c. search needs)
     shared-slice-read-label-2
-    enum-told-6
-    enum-told-7
-    number16-requires-5
-    number16-requires-6
-    enum-told-8
+    (λ c. search needs) (λ c. search needs) (λ c κs. search needs) (λ c κs. search needs) (λ c. search needs)
     returns-2
     returns-3
     returns-4

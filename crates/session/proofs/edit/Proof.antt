@@ -12,12 +12,6 @@ use borrow.Author.Needs.{needs}
 use Rattle.session.proofs.edit.Statement.{statement}
 use Rattle.session.proofs.edit.Tie as tie
 
-refuse-requires : tie.Need-refuse-requires
-refuse-requires c κs = search needs
-
-same-length : tie.Need-same-length
-same-length c = search needs
-
 returns : tie.Need-returns
 unfolding nextSession printed listLeft number
 returns c =
@@ -25,18 +19,6 @@ returns c =
     let w = c .before .before .refuse in
     λ work l. closed-turns (s .state) work l l (now (s .out)) (w .last .1 .1 .0) (w .result) (asks (call (callOf (s .call)))) refl
     (λ v t. refl) (λ v t. refl) (not-true _ (c .before .before .before .before .if1 .taken)) (w .ensures .0) refl (w .ensures .1)
-
-apply-requires : tie.Need-apply-requires
-apply-requires c κs = search needs
-
-number-of-requires : tie.Need-number-of-requires
-number-of-requires c κs = search needs
-
-put-answer-requires : tie.Need-put-answer-requires
-put-answer-requires c κs = search needs
-
-same-length-2 : tie.Need-same-length-2
-same-length-2 c = search needs
 
 returns-2 : tie.Need-returns-2
 returns-2 c =
@@ -53,11 +35,7 @@ pub edit-spec : {M : Type 1} → statement M
 edit-spec =
     tie.close
     (tie.spec
-    refuse-requires
-    same-length
+    (λ c κs. search needs) (λ c. search needs)
     returns
-    apply-requires
-    number-of-requires
-    put-answer-requires
-    same-length-2
+    (λ c κs. search needs) (λ c κs. search needs) (λ c κs. search needs) (λ c. search needs)
     returns-2)

@@ -10,12 +10,6 @@ use Rattle.session.proofs.following.Tie as tie
 returns : tie.Need-returns
 returns c = following-few (now (c .before .before .args .input)) (omega arith)
 
-number16-requires : tie.Need-number16-requires
-number16-requires c κs = search needs
-
-cast-n : tie.Need-cast-n
-cast-n c = search needs
-
 returns-2 : tie.Need-returns-2
 returns-2 c = following-low (now (c .before .before .before .before .args .input)) (omega arith) (omega (arith, c .before .number16 .ensures))
 
@@ -31,4 +25,4 @@ returns-4 c =
 
 pub following-spec : {M : Type 1} → statement M
 following-spec =
-    tie.close (tie.spec returns number16-requires cast-n returns-2 returns-3 returns-4)
+    tie.close (tie.spec returns (λ c κs. search needs) (λ c. search needs) returns-2 returns-3 returns-4)

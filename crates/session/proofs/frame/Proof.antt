@@ -31,37 +31,10 @@ framing c e t =
     turned-framed (s .state) (length (now (s .work))) (now (s .list)) _ (now (s .out)) _ _ _ (decode (s .kind) (now (s .body)))
     (ap (λ x. says x (now (s .body))) (sym e) ∙ c .decode .ensures) (omega (arith, c .before .if1 .left)) t
 
-add-if1 : tie.Need-add-if1
-add-if1 c = search needs
-
 returns : tie.Need-returns
 returns c =
     let s = c .before .before .before .before .before .args in
     none-framed (s .state) (length (now (s .work))) (now (s .list)) (now (s .list)) (now (s .out)) (now (s .out)) _ _ (omega arith) refl refl refl refl
-
-decode-requires : tie.Need-decode-requires
-decode-requires c κs = search needs
-
-enum-known-decoded : tie.Need-enum-known-decoded
-enum-known-decoded c = search needs
-
-open-requires : tie.Need-open-requires
-open-requires c κs = search needs
-
-enum-known-decoded-2 : tie.Need-enum-known-decoded-2
-enum-known-decoded-2 c = search needs
-
-edit-requires : tie.Need-edit-requires
-edit-requires c κs = search needs
-
-enum-told : tie.Need-enum-told
-enum-told c = search needs
-
-ask-pairs-requires : tie.Need-ask-pairs-requires
-ask-pairs-requires c κs = search needs
-
-enum-known-decoded-3 : tie.Need-enum-known-decoded-3
-enum-known-decoded-3 c = search needs
 
 -- the body of a chain question has at least four bytes
 long : (c : tie.After-decoded3) → 4 ≤ length (now (start (c .before .before) .args .body))
@@ -76,41 +49,11 @@ sub-ask-chain c = omega (arith, long (c .before))
 part-ask-chain-start : tie.Need-part-ask-chain-start
 part-ask-chain-start c = omega (arith, long (c .before))
 
-part-ask-chain-end : tie.Need-part-ask-chain-end
-part-ask-chain-end c = search needs
-
-ask-chain-requires : tie.Need-ask-chain-requires
-ask-chain-requires c κs = search needs
-
-enum-known-decoded-4 : tie.Need-enum-known-decoded-4
-enum-known-decoded-4 c = search needs
-
-ask-total-requires : tie.Need-ask-total-requires
-ask-total-requires c κs = search needs
-
-enum-told-2 : tie.Need-enum-told-2
-enum-told-2 c = search needs
-
-refuse-requires : tie.Need-refuse-requires
-refuse-requires c κs = search needs
-
-enum-told-3 : tie.Need-enum-told-3
-enum-told-3 c = search needs
-
-refuse-requires-2 : tie.Need-refuse-requires-2
-refuse-requires-2 c κs = search needs
-
-same-length : tie.Need-same-length
-same-length c = search needs
-
 returns-2 : tie.Need-returns-2
 unfolding says
 returns-2 c =
     let told = c .before .before .before .before .before in
     framing (told .before .before) (told .decoded .given .1) (c .before .before .«open» .ensures _ _)
-
-same-length-2 : tie.Need-same-length-2
-same-length-2 c = search needs
 
 returns-3 : tie.Need-returns-3
 unfolding says
@@ -118,30 +61,12 @@ returns-3 c =
     let told = c .before .before .before .before .before in
     framing (told .before .before) (told .decoded2 .given .1) (c .before .before .edit .ensures _ _)
 
-same-length-3 : tie.Need-same-length-3
-same-length-3 c = search needs
-
-same-length-4 : tie.Need-same-length-4
-same-length-4 c = search needs
-
-same-length-5 : tie.Need-same-length-5
-same-length-5 c = search needs
-
 returns-4 : tie.Need-returns-4
 unfolding says
 returns-4 c =
     let asked = c .before .before .before .before .before .before in
     let told = asked .before .before .before .before in
     framing (told .before .before) (told .enum-told .given .1) (asked .ask-pairs .ensures)
-
-same-length-6 : tie.Need-same-length-6
-same-length-6 c = search needs
-
-same-length-7 : tie.Need-same-length-7
-same-length-7 c = search needs
-
-same-length-8 : tie.Need-same-length-8
-same-length-8 c = search needs
 
 returns-5 : tie.Need-returns-5
 unfolding says
@@ -151,17 +76,11 @@ returns-5 c =
     let s = start (told .before .before) .args in
     framing (told .before .before) (told .decoded3 .given .1) (part-turns (s .state) _ _ _ _ _ _ _ _ (now (s .body)) (asked .ask-chain .ensures))
 
-same-length-9 : tie.Need-same-length-9
-same-length-9 c = search needs
-
 returns-6 : tie.Need-returns-6
 unfolding says
 returns-6 c =
     let told = c .before .before .before .before .before in
     framing (told .before .before) (told .decoded4 .given .1) (c .before .before .ask-total .ensures _ _)
-
-same-length-10 : tie.Need-same-length-10
-same-length-10 c = search needs
 
 returns-7 : tie.Need-returns-7
 unfolding says number
@@ -171,9 +90,6 @@ returns-7 c =
     let w = c .before .before .refuse in
     framing (told .before .before) (told .enum-told2 .given .1)
     (faulty-turns (s .state) _ _ _ _ _ (w .result) broken-frame (w .ensures .0) refl (w .ensures .1))
-
-same-length-11 : tie.Need-same-length-11
-same-length-11 c = search needs
 
 returns-8 : tie.Need-returns-8
 unfolding says number
@@ -188,41 +104,24 @@ pub frame-spec : {M : Type 1} → statement M
 frame-spec =
     tie.close
     (tie.spec
-    add-if1
+    (λ c. search needs)
     returns
-    decode-requires
-    enum-known-decoded
-    open-requires
-    enum-known-decoded-2
-    edit-requires
-    enum-told
-    ask-pairs-requires
-    enum-known-decoded-3
+    (λ c κs. search needs) (λ c. search needs) (λ c κs. search needs) (λ c. search needs) (λ c κs. search needs) (λ c. search needs)
+    (λ c κs. search needs) (λ c. search needs)
     sub-ask-chain
     part-ask-chain-start
-    part-ask-chain-end
-    ask-chain-requires
-    enum-known-decoded-4
-    ask-total-requires
-    enum-told-2
-    refuse-requires
-    enum-told-3
-    refuse-requires-2
-    same-length
+    (λ c. search needs) (λ c κs. search needs) (λ c. search needs) (λ c κs. search needs) (λ c. search needs) (λ c κs. search needs)
+    (λ c. search needs) (λ c κs. search needs) (λ c. search needs)
     returns-2
-    same-length-2
+    (λ c. search needs)
     returns-3
-    same-length-3
-    same-length-4
-    same-length-5
+    (λ c. search needs) (λ c. search needs) (λ c. search needs)
     returns-4
-    same-length-6
-    same-length-7
-    same-length-8
+    (λ c. search needs) (λ c. search needs) (λ c. search needs)
     returns-5
-    same-length-9
+    (λ c. search needs)
     returns-6
-    same-length-10
+    (λ c. search needs)
     returns-7
-    same-length-11
+    (λ c. search needs)
     returns-8)

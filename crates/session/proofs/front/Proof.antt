@@ -9,9 +9,6 @@ use borrow.Author.Needs.{needs}
 use Rattle.session.proofs.front.Statement.{statement}
 use Rattle.session.proofs.front.Tie as tie
 
-following-requires : tie.Need-following-requires
-following-requires c κs = search needs
-
 returns : tie.Need-returns
 returns c = whole-unframed (now (c .before .before .before .args .input)) (omega (arith, c .before .following .ensures))
 
@@ -36,4 +33,4 @@ returns-3 c =
     ap (λ (n : ℕ). n + 2) e ∙ whole-is (now (c .before .before .before .before .args .input)) (omega (arith, e)) (omega (arith, e))
 
 pub front-spec : {M : Type 1} → statement M
-front-spec = tie.close (tie.spec following-requires returns add-if2 returns-2 add-result returns-3)
+front-spec = tie.close (tie.spec (λ c κs. search needs) returns add-if2 returns-2 add-result returns-3)

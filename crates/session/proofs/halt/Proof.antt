@@ -12,12 +12,6 @@ returns c =
     let s = c .before .before .before .args in
     λ work l enough. at-end work (s .state) (now (s .input)) l (now (s .out)) enough (c .if1 .taken)
 
-put-refused-requires : tie.Need-put-refused-requires
-put-refused-requires c κs = search needs
-
-same-length : tie.Need-same-length
-same-length c = search needs
-
 returns-2 : tie.Need-returns-2
 unfolding number
 returns-2 c =
@@ -28,4 +22,4 @@ returns-2 c =
     (whole-none (now (s .input)) (omega arith) none work)
 
 pub halt-spec : {M : Type 1} → statement M
-halt-spec = tie.close (tie.spec returns put-refused-requires same-length returns-2)
+halt-spec = tie.close (tie.spec returns (λ c κs. search needs) (λ c. search needs) returns-2)

@@ -17,21 +17,6 @@ returns c =
       List·getD-eq-default (now (c .before .before .args .s)) 0 {n = p + 1} (omega arith),
     )
 
-byte-at-requires : tie.Need-byte-at-requires
-byte-at-requires c κs = search needs
-
-add-byte-at : tie.Need-add-byte-at
-add-byte-at c = search needs
-
-byte-at-requires-2 : tie.Need-byte-at-requires-2
-byte-at-requires-2 c κs = search needs
-
-mul-result : tie.Need-mul-result
-mul-result c = search needs
-
-add-result : tie.Need-add-result
-add-result c = search needs
-
 returns-2 : tie.Need-returns-2
 unfolding number16
 returns-2 c = rw (← c .before .byte-at .ensures .0, ← c .byte-at2 .ensures .0)
@@ -41,9 +26,5 @@ number16-spec =
     tie.close
     (tie.spec
     returns
-    byte-at-requires
-    add-byte-at
-    byte-at-requires-2
-    mul-result
-    add-result
+    (λ c κs. search needs) (λ c. search needs) (λ c κs. search needs) (λ c. search needs) (λ c. search needs)
     returns-2)

@@ -9,12 +9,6 @@ use borrow.Author.Needs.{needs}
 use Rattle.session.proofs.open.Statement.{statement}
 use Rattle.session.proofs.open.Tie as tie
 
-refuse-requires : tie.Need-refuse-requires
-refuse-requires c κs = search needs
-
-same-length : tie.Need-same-length
-same-length c = search needs
-
 returns : tie.Need-returns
 unfolding number
 returns c =
@@ -22,12 +16,6 @@ returns c =
     let w = c .before .before .refuse in
     λ work l. kept-turns (s .state) work l l (now (s .out)) (w .last .1 .1 .0) (w .result) (s .n)
     (open-none (s .n) (c .before .before .before .before .if1 .taken)) (w .ensures .0) refl (w .ensures .1)
-
-refuse-requires-2 : tie.Need-refuse-requires-2
-refuse-requires-2 c κs = search needs
-
-same-length-2 : tie.Need-same-length-2
-same-length-2 c = search needs
 
 returns-2 : tie.Need-returns-2
 unfolding number
@@ -37,15 +25,6 @@ returns-2 c =
     λ work l. kept-turns (s .state) work l l (now (s .out)) (w .last .1 .1 .0) (w .result) (s .n)
     (open-many (s .n) (c .before .before .before .before .before .if1 .left) (c .before .before .before .before .if2 .taken))
     (w .ensures .0) refl (w .ensures .1)
-
-open-requires : tie.Need-open-requires
-open-requires c κs = search needs
-
-put-ok-requires : tie.Need-put-ok-requires
-put-ok-requires c κs = search needs
-
-same-length-3 : tie.Need-same-length-3
-same-length-3 c = search needs
 
 returns-3 : tie.Need-returns-3
 returns-3 c =
@@ -62,13 +41,9 @@ pub open-spec : {M : Type 1} → statement M
 open-spec =
     tie.close
     (tie.spec
-    refuse-requires
-    same-length
+    (λ c κs. search needs) (λ c. search needs)
     returns
-    refuse-requires-2
-    same-length-2
+    (λ c κs. search needs) (λ c. search needs)
     returns-2
-    open-requires
-    put-ok-requires
-    same-length-3
+    (λ c κs. search needs) (λ c κs. search needs) (λ c. search needs)
     returns-3)

@@ -10,39 +10,21 @@ use borrow.Author.Needs.{needs}
 use Rattle.session.proofs.put_listing.Statement.{statement}
 use Rattle.session.proofs.put_listing.Tie as tie
 
-enum-known-answer : tie.Need-enum-known-answer
-enum-known-answer c = search needs
-
-listed-requires : tie.Need-listed-requires
-listed-requires c κs = search needs
-
 slice-aggregate-put-pairs : tie.Need-slice-aggregate-put-pairs
-slice-aggregate-put-pairs c = sym (length-take-le _ _ (c .before .listed .ensures .0))
+slice-aggregate-put-pairs c = sym (length-take-le _ _ (c .before .pairs-shown .ensures .0))
 
 put-pairs-requires : tie.Need-put-pairs-requires
 put-pairs-requires c κs =
     let p = c .before .before .before .before .before .before .before .before .pre in
-    let h = c .before .before .listed .ensures .0 in
+    let h = c .before .before .pairs-shown .ensures .0 in
     simp length-take (omega (arith, p, h))
-
-enum-known-answer-2 : tie.Need-enum-known-answer-2
-enum-known-answer-2 c = search needs
-
-put-refused-requires : tie.Need-put-refused-requires
-put-refused-requires c κs = search needs
-
-same-length : tie.Need-same-length
-same-length c = search needs
 
 returns : tie.Need-returns
 unfolding outcomeText listing
 returns c =
     let a = c .before .before .before .before .before .before .before .answer in
     rw (a .given .1)
-    (wrote-as (ap (pairsText (a .given .0 .0)) (c .before .before .before .before .before .listed .ensures .1)) (c .before .before .put-pairs .ensures))
-
-same-length-2 : tie.Need-same-length-2
-same-length-2 c = search needs
+    (wrote-as (ap (pairsText (a .given .0 .0)) (c .before .before .before .before .before .pairs-shown .ensures .1)) (c .before .before .put-pairs .ensures))
 
 returns-2 : tie.Need-returns-2
 unfolding outcomeText listing
@@ -52,13 +34,10 @@ pub put-listing-spec : {M : Type 1} → statement M
 put-listing-spec =
     tie.close
     (tie.spec
-    enum-known-answer
-    listed-requires
+    (λ c. search needs) (λ c κs. search needs)
     slice-aggregate-put-pairs
     put-pairs-requires
-    enum-known-answer-2
-    put-refused-requires
-    same-length
+    (λ c. search needs) (λ c κs. search needs) (λ c. search needs)
     returns
-    same-length-2
+    (λ c. search needs)
     returns-2)

@@ -12,9 +12,6 @@ use borrow.Author.Needs.{needs}
 use Rattle.session.proofs.put_reply.Statement.{statement}
 use Rattle.session.proofs.put_reply.Tie as tie
 
-enum-known-answer : tie.Need-enum-known-answer
-enum-known-answer c = search needs
-
 -- the steps are within the list
 fits : (c : tie.After-answer) → c .answer .given .0 .0 ≤ length (now (c .before .before .before .before .args .list))
 unfolding chainCounted counted
@@ -26,34 +23,13 @@ slice-aggregate-put-chain c = sym (length-take-le _ _ (fits (c .before .before))
 put-chain-requires : tie.Need-put-chain-requires
 put-chain-requires c κs = let p = c .before .before .before .before .before .before .before .pre .1 in simp length-take (omega arith)
 
-enum-told : tie.Need-enum-told
-enum-told c = search needs
-
-put-none-requires : tie.Need-put-none-requires
-put-none-requires c κs = search needs
-
-enum-known-answer-2 : tie.Need-enum-known-answer-2
-enum-known-answer-2 c = search needs
-
-put-refused-requires : tie.Need-put-refused-requires
-put-refused-requires c κs = search needs
-
-same-length : tie.Need-same-length
-same-length c = search needs
-
 returns : tie.Need-returns
 unfolding outcomeText outcomeOf
 returns c = rw (c .before .before .before .before .before .before .answer .given .1) (c .before .before .put-chain .ensures)
 
-same-length-2 : tie.Need-same-length-2
-same-length-2 c = search needs
-
 returns-2 : tie.Need-returns-2
 unfolding outcomeText outcomeOf
 returns-2 c = rw (c .before .before .before .before .enum-told .given .1) (c .before .before .put-none .ensures)
-
-same-length-3 : tie.Need-same-length-3
-same-length-3 c = search needs
 
 returns-3 : tie.Need-returns-3
 unfolding outcomeText outcomeOf
@@ -63,16 +39,12 @@ pub put-reply-spec : {M : Type 1} → statement M
 put-reply-spec =
     tie.close
     (tie.spec
-    enum-known-answer
+    (λ c. search needs)
     slice-aggregate-put-chain
     put-chain-requires
-    enum-told
-    put-none-requires
-    enum-known-answer-2
-    put-refused-requires
-    same-length
+    (λ c. search needs) (λ c κs. search needs) (λ c. search needs) (λ c κs. search needs) (λ c. search needs)
     returns
-    same-length-2
+    (λ c. search needs)
     returns-2
-    same-length-3
+    (λ c. search needs)
     returns-3)

@@ -10,22 +10,13 @@ use borrow.Author.Needs.{needs}
 use Rattle.session.proofs.step.Statement.{statement}
 use Rattle.session.proofs.step.Tie as tie
 
-add-if1 : tie.Need-add-if1
-add-if1 c = search needs
-
 returns : tie.Need-returns
 returns c =
     let s = c .before .before .before .before .before .args in
     stays _ (s .state) (now (s .input)) (now (s .list)) (now (s .out)) (omega arith)
 
-front-requires : tie.Need-front-requires
-front-requires c κs = search needs
-
 halt-requires : tie.Need-halt-requires
 halt-requires c κs = (omega (arith, c .before .before .front .ensures), omega arith)
-
-same-length : tie.Need-same-length
-same-length c = search needs
 
 returns-2 : tie.Need-returns-2
 returns-2 c = c .before .before .halt .ensures _ _ (omega arith)
@@ -38,9 +29,6 @@ facts c =
     let start = c .before .before .before .before .before .before .before in
     whole-long (now (start .args .input)) (c .before .front .result) (c .before .front .ensures) (omega arith)
 
-number16-requires : tie.Need-number16-requires
-number16-requires c κs = search needs
-
 sub-frame : tie.Need-sub-frame
 sub-frame c = omega (arith, facts (c .before))
 
@@ -49,18 +37,6 @@ part-frame-start c = omega (arith, facts (c .before))
 
 part-frame-end : tie.Need-part-frame-end
 part-frame-end c = omega (arith, facts (c .before))
-
-frame-requires : tie.Need-frame-requires
-frame-requires c κs = search needs
-
-same-length-2 : tie.Need-same-length-2
-same-length-2 c = search needs
-
-same-length-3 : tie.Need-same-length-3
-same-length-3 c = search needs
-
-same-length-4 : tie.Need-same-length-4
-same-length-4 c = search needs
 
 returns-3 : tie.Need-returns-3
 returns-3 c =
@@ -79,18 +55,15 @@ pub step-spec : {M : Type 1} → statement M
 step-spec =
     tie.close
     (tie.spec
-    add-if1
+    (λ c. search needs)
     returns
-    front-requires
+    (λ c κs. search needs)
     halt-requires
-    same-length
+    (λ c. search needs)
     returns-2
-    number16-requires
+    (λ c κs. search needs)
     sub-frame
     part-frame-start
     part-frame-end
-    frame-requires
-    same-length-2
-    same-length-3
-    same-length-4
+    (λ c κs. search needs) (λ c. search needs) (λ c. search needs) (λ c. search needs)
     returns-3)

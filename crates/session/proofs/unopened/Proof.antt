@@ -5,11 +5,8 @@ use borrow.Author.Needs.{needs}
 use Rattle.session.proofs.unopened.Statement.{statement}
 use Rattle.session.proofs.unopened.Tie as tie
 
-open-requires : tie.Need-open-requires
-open-requires c κs = search needs
-
 returns : tie.Need-returns
 returns c = is-closed refl
 
 pub unopened-spec : {M : Type 1} → statement M
-unopened-spec = tie.close (tie.spec open-requires returns)
+unopened-spec = tie.close (tie.spec (λ c κs. search needs) returns)

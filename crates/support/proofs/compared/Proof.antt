@@ -7,24 +7,9 @@ use borrow.Author.Needs.{needs}
 use Rattle.support.proofs.compared.Statement.{statement}
 use Rattle.support.proofs.compared.Tie as tie
 
-mark-records-requires : tie.Need-mark-records-requires
-mark-records-requires c κs = search needs
-
-same-length : tie.Need-same-length
-same-length c = search needs
-
 returns : tie.Need-returns
 returns c = let p = c .before .before .before .before .before .before .before .before .before .before .pre in
     first-refused _ _ _ _ _ _ _ (p .0) (p .1) (p .2) (p .3) (c .before .before .before .before .mark-records .ensures) (c .if1 .taken)
-
-without-requires : tie.Need-without-requires
-without-requires c κs = search needs
-
-mark-records-requires-2 : tie.Need-mark-records-requires-2
-mark-records-requires-2 c κs = search needs
-
-same-length-2 : tie.Need-same-length-2
-same-length-2 c = search needs
 
 returns-2 : tie.Need-returns-2
 returns-2 c =
@@ -38,18 +23,12 @@ returns-2 c =
     second-refused _ _ _ _ _ _ _ (p .0) (p .1) (p .2) (p .3) (m .ensures) (else1 .if1 .left)
     (after-mark-records2 .before .before .without .ensures) kept (after-mark-records2 .mark-records2 .ensures) (c .if2 .taken)
 
-hand-over-requires : tie.Need-hand-over-requires
-hand-over-requires c κs =
+list-fallen-requires : tie.Need-list-fallen-requires
+list-fallen-requires c κs =
     let after-mark-records2 = c .before .before .before .before .before .before .before in
     let after-mark-records = after-mark-records2 .before .before .before .before .before .before .before in
     let start = after-mark-records .before .before .before .before .before .before in
     (start .pre .0, after-mark-records .mark-records .ensures .long, after-mark-records2 .mark-records2 .ensures .long)
-
-same-length-3 : tie.Need-same-length-3
-same-length-3 c = search needs
-
-same-length-4 : tie.Need-same-length-4
-same-length-4 c = search needs
 
 returns-3 : tie.Need-returns-3
 returns-3 c =
@@ -61,20 +40,16 @@ returns-3 c =
     let m = after-mark-records .mark-records in
     let kept : length (m .last .1 .1 .1 .0) ≡ length (start .args .work .now) = m .kept .1 .1 .1 .0 in
     handed-over _ _ _ _ _ _ _ (p .0) (p .1) (p .2) (p .3) (m .ensures) (else1 .if1 .left) (after-mark-records2 .before .before .without .ensures)
-    kept (after-mark-records2 .mark-records2 .ensures) (c .before .before .hand-over .ensures)
+    kept (after-mark-records2 .mark-records2 .ensures) (c .before .before .list-fallen .ensures)
 
 pub compared-spec : {M : Type 1} → statement M
 compared-spec =
     tie.close
     (tie.spec
-    mark-records-requires
-    same-length
+    (λ c κs. search needs) (λ c. search needs)
     returns
-    without-requires
-    mark-records-requires-2
-    same-length-2
+    (λ c κs. search needs) (λ c κs. search needs) (λ c. search needs)
     returns-2
-    hand-over-requires
-    same-length-3
-    same-length-4
+    list-fallen-requires
+    (λ c. search needs) (λ c. search needs)
     returns-3)

@@ -31,9 +31,6 @@ array-read-had c = omega (arith, c .before .loop .inv .1)
 array-read-has : tie.Need-array-read-has Inv-loop μ-loop
 array-read-has c = omega (arith, c .before .loop .inv .1)
 
-loses-requires : tie.Need-loses-requires Inv-loop μ-loop
-loses-requires c κs = search needs
-
 cast-words : tie.Need-cast-words Inv-loop μ-loop
 cast-words c = omega (arith, c .before .before .before .loop .inv .1)
 
@@ -54,9 +51,6 @@ add-count c =
 
 add-x : tie.Need-add-x Inv-loop μ-loop
 add-x c = omega (arith, c .before .before .before .loop .inv .1)
-
-loop-less : tie.Need-loop-less Inv-loop μ-loop
-loop-less c = omega arith
 
 loop-again : tie.Need-loop-again Inv-loop μ-loop
 unfolding lost
@@ -99,12 +93,12 @@ fallen-spec =
     loop-holds
     array-read-had
     array-read-has
-    loses-requires
+    (λ c κs. search needs)
     cast-words
     mul-words
     array-write-words
     add-count
     add-x
-    loop-less
+    (λ c. omega arith)
     loop-again
     returns)

@@ -7,47 +7,41 @@ use Prim.Native.Nat.{ℕ, _-_, _≤_, _<_}
 use lib.ListN.{length, length-set, getD}
 use Rattle.book.specs.Causes.{maxRecords}
 use Rattle.support.specs.Support.{reaches}
-use Rattle.support.specs.Inner.{joinedBy}
+use Rattle.rowpairs.specs.Evaluation.{relationIn}
 use Rattle.support.proofs.LoopLaws.{marked-more}
 use Rattle.support.proofs.joined_records.Statement.{statement}
 use Rattle.support.proofs.joined_records.Tie as tie
 
 abbrev Inv-loop : tie.InvT-loop
-Inv-loop rows anchors n records₀ x₀ records x =
-    (x ≤ n) × (n ≤ maxRecords) × (length records ≡ maxRecords) × ((y : ℕ) → y < x → getD records y false ≡ reaches (joinedBy rows) anchors y)
+Inv-loop cells masks m anchors n records₀ x₀ records x =
+    (x ≤ n) × (n ≤ maxRecords) × (length records ≡ maxRecords) × ((y : ℕ) → y < x → getD records y false ≡ reaches (relationIn cells masks m) anchors y)
 
 abbrev μ-loop : tie.MeasureT-loop
-μ-loop rows anchors n records₀ x₀ records x = n - x
+μ-loop cells masks m anchors n records₀ x₀ records x = n - x
 
 loop-holds : tie.Need-loop-holds Inv-loop μ-loop
-loop-holds c = (omega arith, c .before .before .pre, refl, λ y h. absurd (omega arith))
+loop-holds c = (omega arith, c .before .before .before .pre .1, refl, λ y h. absurd (omega arith))
 
 joined-to-some-requires : tie.Need-joined-to-some-requires Inv-loop μ-loop
-joined-to-some-requires c κs = omega (arith, c .before .loop .inv .1)
+joined-to-some-requires c κs = c .before .before .before .before .before .pre .0
 
 array-write-records : tie.Need-array-write-records Inv-loop μ-loop
 array-write-records c = omega (arith, c .before .before .loop .inv .1)
 
-add-x : tie.Need-add-x Inv-loop μ-loop
-add-x c = omega arith
-
-loop-less : tie.Need-loop-less Inv-loop μ-loop
-loop-less c = omega arith
-
 loop-again : tie.Need-loop-again Inv-loop μ-loop
 loop-again c = let l = c .before .before .loop in
-    let a = c .before .before .before .before .before .args in
+    let a = c .before .before .before .before .before .before .args in
     let j = c .joined-to-some in (
       omega arith,
       l .inv .1,
       length-set (l .records) (l .x) (j .result) ∙ l .inv .2,
-      marked-more (reaches (joinedBy (a .rows .now)) (a .anchors .now)) (l .records)
+      marked-more (reaches (relationIn (a .cells .now) (a .masks .now) (a .m)) (a .anchors .now)) (l .records)
           (l .x) (j .result) (omega (arith, l .inv .1, l .inv .2)) (j .ensures) (l .inv .3),
     )
 
 returns : tie.Need-returns Inv-loop μ-loop
 returns c = let l = c .before .loop in
-    let a = c .before .before .before .before .args in
+    let a = c .before .before .before .before .before .args in
     let e : l .x ≡ a .n = omega arith in
     (l .inv .2, λ y h. l .inv .3 y (omega arith))
 
@@ -60,7 +54,6 @@ joined-records-spec =
     loop-holds
     joined-to-some-requires
     array-write-records
-    add-x
-    loop-less
+    (λ c. omega arith) (λ c. omega arith)
     loop-again
     returns)

@@ -6,9 +6,6 @@ use borrow.Author.Needs.{needs}
 use Rattle.support.proofs.loses.Statement.{statement}
 use Rattle.support.proofs.loses.Tie as tie
 
-returns : tie.Need-returns
-returns c = search needs
-
 returns-2 : tie.Need-returns-2
 returns-2 c =
     let a = c .before .before .args in
@@ -20,4 +17,4 @@ returns-3 c =
     sym (ap (λ (t : Bool). not t && (a .had && not (a .has))) (c .before .if1 .left) ∙ ap (λ (t : Bool). t && not (a .has)) (not-false (a .had) (c .if2 .left)))
 
 pub loses-spec : {M : Type 1} → statement M
-loses-spec = tie.close (tie.spec returns returns-2 returns-3)
+loses-spec = tie.close (tie.spec (λ c. search needs) returns-2 returns-3)

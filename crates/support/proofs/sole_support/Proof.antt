@@ -7,41 +7,17 @@ use borrow.Author.Needs.{needs}
 use Rattle.support.proofs.sole_support.Statement.{statement}
 use Rattle.support.proofs.sole_support.Tie as tie
 
-size-requires : tie.Need-size-requires
-size-requires c κs = search needs
-
 returns : tie.Need-returns
 returns c = refuses-core _ _ _ _ (c .before .size .ensures .size) (c .if1 .taken)
 
-beyond-requires : tie.Need-beyond-requires
-beyond-requires c κs = search needs
-
 returns-2 : tie.Need-returns-2
 returns-2 c = refuses-beyond _ _ _ _ (c .before .before .before .size .ensures .size) (sym (c .before .beyond .ensures) ∙ c .if2 .taken)
-
-ascending-requires : tie.Need-ascending-requires
-ascending-requires c κs = search needs
 
 returns-3 : tie.Need-returns-3
 returns-3 c =
     refuses-unordered _ _ _ _ (c .before .before .before .before .before .size .ensures .size) (c .before .before .before .before .if1 .left)
     (sym (c .before .before .before .beyond .ensures) ∙ c .before .before .if2 .left)
     (sym (c .before .ascending .ensures) ∙ not-true (c .before .ascending .result) (c .if3 .taken))
-
-spared-requires : tie.Need-spared-requires
-spared-requires c κs = search needs
-
-mul-compared : tie.Need-mul-compared
-mul-compared c = search needs
-
-sub-compared : tie.Need-sub-compared
-sub-compared c = search needs
-
-part-compared-start : tie.Need-part-compared-start
-part-compared-start c = search needs
-
-part-compared-end : tie.Need-part-compared-end
-part-compared-end c = search needs
 
 compared-requires : tie.Need-compared-requires
 compared-requires c κs =
@@ -52,12 +28,6 @@ compared-requires c κs =
       sym (after-beyond .beyond .ensures) ∙ else3 .before .before .if2 .left,
       sym (else3 .before .ascending .ensures) ∙ not-false (else3 .before .ascending .result) (else3 .if3 .left),
     )
-
-same-length : tie.Need-same-length
-same-length c = search needs
-
-same-length-2 : tie.Need-same-length-2
-same-length-2 c = search needs
 
 returns-4 : tie.Need-returns-4
 returns-4 c =
@@ -71,18 +41,13 @@ pub sole-support-spec : {M : Type 1} → statement M
 sole-support-spec =
     tie.close
     (tie.spec
-    size-requires
+    (λ c κs. search needs)
     returns
-    beyond-requires
+    (λ c κs. search needs)
     returns-2
-    ascending-requires
+    (λ c κs. search needs)
     returns-3
-    spared-requires
-    mul-compared
-    sub-compared
-    part-compared-start
-    part-compared-end
+    (λ c κs. search needs) (λ c. search needs) (λ c. search needs) (λ c. search needs) (λ c. search needs)
     compared-requires
-    same-length
-    same-length-2
+    (λ c. search needs) (λ c. search needs)
     returns-4)

@@ -1,64 +1,87 @@
--- `built` meets its contract. The loop's invariant: the rest of the code, run on what the tables hold, leaves the expression (Next). The measure is what is
--- left of the code. Assumes nothing.
-use mathlib.Core.Path.{_≡_}
+-- `built` meets its contract. The loop's invariant: the rest of the code, run on what the tables hold, leaves the expression (`Next`). The measure is what is
+-- left of the code. Then one part waits (`at-end`), which is inverted where the sense is against it. Assumes nothing.
+use mathlib.Core.Path.{_≡_, _∙_}
 use mathlib.Core.List.{List}
 use Prim.Native.Nat.{ℕ, suc, _-_, _≤_}
 use native.Mathlib.Omega.{arith}
 use native.Mathlib.Numerals.{add-one}
+use borrow.Author.Needs.{needs}
 use lib.ListN.{length, drop, drop-of-length-le}
 use lib.Seq.{drop-cons}
 use Rattle.paths.specs.Expressions.{Expr}
 use Rattle.paths.specs.Verdicts.{InLimits}
 use Rattle.reader.specs.Code.{code, value}
-use Rattle.tables.specs.Builds.{parts, Next}
-use Rattle.tables.proofs.RunLaws.{next-none, holds-none, zeros-at, at-end}
+use Rattle.tables.specs.Builds.{parts, build, Next, Alone}
+use Rattle.tables.proofs.RunLaws.{next-none, holds-none, at-end, alone-top}
 use Rattle.tables.proofs.built.Statement.{statement}
 use Rattle.tables.proofs.built.Tie as tie
 
 abbrev Inv-loop : tie.InvT-loop
-Inv-loop numbers b₀ i₀ b i =
-    (i ≤ length numbers)
-    × ((text : List ℕ) (e : Expr) → InLimits text e → numbers ≡ code e → Next b (drop i numbers) (value parts e))
+Inv-loop numbers against follow₀ pred₀ enter₀ s₀ i₀ follow pred enter s i =
+    (i ≤ length numbers) × (length follow ≡ 64) × (length pred ≡ 64) × (length enter ≡ 64)
+    × ((text : List ℕ) (e : Expr) → InLimits text e → numbers ≡ code e → Next (build follow pred enter s) (drop i numbers) (value parts e))
 
 abbrev μ-loop : tie.MeasureT-loop
-μ-loop numbers b₀ i₀ b i = length numbers - i
+μ-loop numbers against follow₀ pred₀ enter₀ s₀ i₀ follow pred enter s i = length numbers - i
 
 loop-holds : tie.Need-loop-holds Inv-loop μ-loop
-loop-holds c = (omega arith, λ text e L q. next-none L q (holds-none _ _ _ (zeros-at 64) (zeros-at 64) (zeros-at 64) _ _ _ _))
-
-mul-step : tie.Need-mul-step Inv-loop μ-loop
-mul-step c = omega arith
-
-shared-slice-read-step : tie.Need-shared-slice-read-step Inv-loop μ-loop
-shared-slice-read-step c = omega arith
+loop-holds c =
+    let p = c .before .before .before .before .pre in
+    (omega arith, p .0, p .1, p .2, λ text e L q. next-none L q (holds-none _ _ _ (p .3) (p .4) (p .5) _ _ _ _))
 
 step-requires : tie.Need-step-requires Inv-loop μ-loop
 step-requires c κs =
-    let start = c .before .before .before .before in
+    let start = c .before .before .before .before .before .before .before .before .before .before in
     let p = start .pre in
     let s = start .args .numbers .now in
-    let l = c .before .before .loop in
-    (drop (suc (l .i)) s, value parts (p .1), rw (drop-cons s (l .i) 0 (omega arith)) at (l .inv .1 (p .0) (p .1) (p .2) (p .3)))
-
-add-i : tie.Need-add-i Inv-loop μ-loop
-add-i c = omega arith
-
-loop-less : tie.Need-loop-less Inv-loop μ-loop
-loop-less c = omega arith
+    let l = c .before .before .before .before .before .loop in (
+      l .inv .1,
+      l .inv .2,
+      l .inv .3,
+      (drop (suc (l .i)) s, value parts (p .6 .1), rw (drop-cons s (l .i) 0 (omega arith)) at (l .inv .4 (p .6 .0) (p .6 .1) (p .6 .2) (p .6 .3))),
+    )
 
 loop-again : tie.Need-loop-again Inv-loop μ-loop
 loop-again c =
-    let s = c .before .before .before .before .before .args .numbers .now in
-    let l = c .before .before .before .loop in (
+    let after-step = c .before .before .before .before .before .before in
+    let at-loop = after-step .before .before .before .before .before .before in
+    let start = at-loop .before .before .before .before .before in
+    let s = start .args .numbers .now in
+    let l = at-loop .loop in
+    let t = after-step .step in (
       omega arith,
-      λ text e L q. rw add-one (c .step .ensures (drop (suc (l .i)) s) (value parts e) (rw (drop-cons s (l .i) 0 (omega arith)) at (l .inv .1 text e L q))),
+      t .kept .0 ∙ l .inv .1,
+      t .kept .1 .0 ∙ l .inv .2,
+      t .kept .1 .1 .0 ∙ l .inv .3,
+      λ text e L q. rw add-one (t .ensures (drop (suc (l .i)) s) (value parts e) (rw (drop-cons s (l .i) 0 (omega arith)) at (l .inv .4 text e L q))),
     )
+
+-- one part waits
+alone : (c : tie.After-loop Inv-loop μ-loop)
+    → let l = c .before .loop in
+    (text : List ℕ) (e : Expr) → InLimits text e → c .before .before .before .before .before .before .args .numbers .now ≡ code e
+    → Alone (build (l .follow) (l .pred) (l .enter) (l .s)) (value parts e)
+alone c text e L q =
+    let l = c .before .loop in
+    let s = c .before .before .before .before .before .before .args .numbers .now in
+    at-end (rw (drop-of-length-le s (let z : length s ≤ l .i = omega arith in z)) at (l .inv .4 text e L q))
+
+inverted-requires : tie.Need-inverted-requires Inv-loop μ-loop
+inverted-requires c κs =
+    let p = c .before .before .before .before .before .before .before .before .before .before .pre in
+    let l = c .before .before .before .before .before .loop in
+    let z = alone-top (alone (c .before .before .before .before) (p .6 .0) (p .6 .1) (p .6 .2) (p .6 .3)) in
+    (l .inv .1, l .inv .2, l .inv .3, z .0, z .1)
 
 returns : tie.Need-returns Inv-loop μ-loop
 returns c =
-    let l = c .before .loop in
-    let s = c .before .before .before .args .numbers .now in
-    λ text e L q. at-end (rw (drop-of-length-le s (let z : length s ≤ l .i = omega arith in z)) at (l .inv .1 text e L q))
+    let after-inverted = c .before .before .before .before .before .before in
+    let then1 = after-inverted .before .before .before .before in
+    λ text e L q. let A = alone (then1 .before) text e L q in
+    rw (then1 .if1 .taken) (unfold value in (A .0, after-inverted .inverted .ensures _ _ _ (A .1)))
+
+returns-2 : tie.Need-returns-2 Inv-loop μ-loop
+returns-2 c = λ text e L q. rw (c .if1 .left) (alone (c .before) text e L q)
 
 pub built-spec : {M : Type 1} → statement M
 built-spec =
@@ -67,10 +90,12 @@ built-spec =
     Inv-loop
     μ-loop
     loop-holds
-    mul-step
-    shared-slice-read-step
+    (λ c. omega arith) (λ c. omega arith)
     step-requires
-    add-i
-    loop-less
+    (λ c. omega arith) (λ c. omega arith)
     loop-again
-    returns)
+    inverted-requires
+    (λ c. search needs) (λ c. search needs) (λ c. search needs)
+    returns
+    (λ c. search needs) (λ c. search needs) (λ c. search needs)
+    returns-2)

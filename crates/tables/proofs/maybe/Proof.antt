@@ -7,19 +7,10 @@ use Rattle.tables.proofs.UnaryLaws.{holds-optional}
 use Rattle.tables.proofs.maybe.Statement.{statement}
 use Rattle.tables.proofs.maybe.Tie as tie
 
-sub-j : tie.Need-sub-j
-sub-j c = search needs
-
-mul-r : tie.Need-mul-r
-mul-r c = search needs
-
-element-write-r : tie.Need-element-write-r
-element-write-r c = search needs
-
 returns : tie.Need-returns
 returns c =
-    let k : length (c .args .b .nullable) ≡ 19 = search needs in
-    λ m x st H. holds-optional H (omega arith) refl refl refl refl refl refl refl refl refl
+    let k : length (c .args .s .nullable) ≡ 19 = search needs in
+    λ fs ps es m x st H. holds-optional H (omega arith) refl refl refl refl refl refl refl refl refl
 
 pub maybe-spec : {M : Type 1} → statement M
-maybe-spec = tie.close (tie.spec sub-j mul-r element-write-r returns)
+maybe-spec = tie.close (tie.spec (λ c. search needs) (λ c. search needs) (λ c. search needs) returns)

@@ -5,39 +5,15 @@ use Rattle.tables.proofs.UnaryLaws.{holds-plus}
 use Rattle.tables.proofs.repeated.Statement.{statement}
 use Rattle.tables.proofs.repeated.Tie as tie
 
-sub-j : tie.Need-sub-j
-sub-j c = search needs
-
-mul-last : tie.Need-mul-last
-mul-last c = search needs
-
-element-copy-out-last : tie.Need-element-copy-out-last
-element-copy-out-last c = search needs
-
-mul-first : tie.Need-mul-first
-mul-first c = search needs
-
-element-copy-out-first : tie.Need-element-copy-out-first
-element-copy-out-first c = search needs
-
-joined-requires : tie.Need-joined-requires
-joined-requires c κs = search needs
-
-joined-requires-2 : tie.Need-joined-requires-2
-joined-requires-2 c κs = search needs
-
 returns : tie.Need-returns
-returns c = (λ m x st H. holds-plus H refl refl refl refl refl refl refl (c .before .joined .ensures) (c .joined2 .ensures), refl)
+returns c =
+    let after-with-edges = c .before .before .before .before .before .before in
+    λ es m x st H. holds-plus H refl refl refl refl refl refl refl (after-with-edges .with-edges .ensures) (c .before .before .with-edges2 .ensures)
 
 pub repeated-spec : {M : Type 1} → statement M
 repeated-spec =
     tie.close
     (tie.spec
-    sub-j
-    mul-last
-    element-copy-out-last
-    mul-first
-    element-copy-out-first
-    joined-requires
-    joined-requires-2
+    (λ c. search needs) (λ c. search needs) (λ c. search needs) (λ c. search needs) (λ c. search needs) (λ c κs. search needs) (λ c κs. search needs)
+    (λ c. search needs) (λ c. search needs)
     returns)

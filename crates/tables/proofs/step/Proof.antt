@@ -1,6 +1,5 @@
 -- `step` meets its contract: each item does to the tables what it does to the parts that wait (RunLaws). Assumes nothing.
 use mathlib.Core.Path.{_≡_, sym, _∙_}
-use native.Mathlib.Omega.{arith}
 use borrow.Author.Needs.{needs}
 use Rattle.reader.specs.declared.items.Item.the-variants.{Letters, Inverse, Star, Plus, Optional, Alternative, Sequence}
 use Rattle.reader.specs.Code.{itemOf}
@@ -9,124 +8,128 @@ use Rattle.tables.proofs.RunLaws.{after-two}
 use Rattle.tables.proofs.step.Statement.{statement}
 use Rattle.tables.proofs.step.Tie as tie
 
-item-of-requires : tie.Need-item-of-requires
-item-of-requires c κs = search needs
-
-enum-known-item : tie.Need-enum-known-item
-enum-known-item c = search needs
-
 -- the number is a symbol's
-is-symbol : (c : tie.After-item) → itemOf (c .before .before .before .args .i) ≡ Letters (c .item .given .0 .0) (c .item .given .0 .1 .0)
-is-symbol c = sym (c .before .before .item-of .ensures) ∙ c .item .given .1
+is-symbol : (c : tie.After-known-told)
+    → let start = c .before .before .before .before .before .before .before in
+    itemOf (start .args .i) ≡ Letters (c .before .item .given .0 .0) (c .before .item .given .0 .1 .0)
+is-symbol c = sym (c .before .before .before .item-of .ensures) ∙ c .before .item .given .1
 
 symbol-requires : tie.Need-symbol-requires
-symbol-requires c κs = room-symbol (c .before .before .before .before .pre .2) (is-symbol (c .before))
+symbol-requires c κs =
+    let start = c .before .before .before .before .before .before .before .before in
+    let p = start .pre in let z = room-symbol (p .3 .2) (is-symbol (c .before)) in (p .2, z .0, z .1)
 
-enum-told : tie.Need-enum-told
-enum-told c = search needs
-
-is-inverse : (c : tie.After-enum-told) → itemOf (c .before .before .before .args .i) ≡ Inverse
+is-inverse : (c : tie.After-enum-told) → itemOf (c .before .before .before .before .before .before .args .i) ≡ Inverse
 is-inverse c = sym (c .before .before .item-of .ensures) ∙ c .enum-told .given .1
 
 inverted-requires : tie.Need-inverted-requires
-inverted-requires c κs = room-one (c .before .before .before .pre .2) (is-inverse c) inverts
+inverted-requires c κs =
+    let after-enum-told = c .before .before .before in
+    let start = after-enum-told .before .before .before .before .before .before in
+    let p = start .pre in let z = room-one (p .3 .2) (is-inverse after-enum-told) inverts in (p .0, p .1, p .2, z .0, z .1)
 
-enum-told-2 : tie.Need-enum-told-2
-enum-told-2 c = search needs
-
-is-star : (c : tie.After-enum-told2) → itemOf (c .before .before .before .args .i) ≡ Star
+is-star : (c : tie.After-enum-told2) → itemOf (c .before .before .before .before .before .before .args .i) ≡ Star
 is-star c = sym (c .before .before .item-of .ensures) ∙ c .enum-told2 .given .1
 
 repeated-requires : tie.Need-repeated-requires
-repeated-requires c κs = room-one (c .before .before .before .pre .2) (is-star c) stars
+repeated-requires c κs =
+    let start = c .before .before .before .before .before .before .before .before in
+    let p = start .pre in let z = room-one (p .3 .2) (is-star (c .before .before)) stars in (p .0, p .1, z .0, z .1)
 
 maybe-requires : tie.Need-maybe-requires
 maybe-requires c κs =
-    let z = room-one (c .before .before .before .before .pre .2) (is-star (c .before)) stars in
-    let y = c .repeated .ensures .1 in
-    (omega arith, omega arith)
+    let after-enum-told2 = c .before .before .before .before .before .before .before in
+    let start = after-enum-told2 .before .before .before .before .before .before in
+    room-one (start .pre .3 .2) (is-star after-enum-told2) stars
 
-enum-told-3 : tie.Need-enum-told-3
-enum-told-3 c = search needs
-
-is-plus : (c : tie.After-enum-told3) → itemOf (c .before .before .before .args .i) ≡ Plus
+is-plus : (c : tie.After-enum-told3) → itemOf (c .before .before .before .before .before .before .args .i) ≡ Plus
 is-plus c = sym (c .before .before .item-of .ensures) ∙ c .enum-told3 .given .1
 
 repeated-requires-2 : tie.Need-repeated-requires-2
-repeated-requires-2 c κs = room-one (c .before .before .before .pre .2) (is-plus c) repeats
+repeated-requires-2 c κs =
+    let start = c .before .before .before .before .before .before .before .before in
+    let p = start .pre in let z = room-one (p .3 .2) (is-plus (c .before .before)) repeats in (p .0, p .1, z .0, z .1)
 
-enum-told-4 : tie.Need-enum-told-4
-enum-told-4 c = search needs
-
-is-optional : (c : tie.After-enum-told4) → itemOf (c .before .before .before .args .i) ≡ Optional
+is-optional : (c : tie.After-enum-told4) → itemOf (c .before .before .before .before .before .before .args .i) ≡ Optional
 is-optional c = sym (c .before .before .item-of .ensures) ∙ c .enum-told4 .given .1
 
 maybe-requires-2 : tie.Need-maybe-requires-2
-maybe-requires-2 c κs = room-one (c .before .before .before .pre .2) (is-optional c) allows-none
+maybe-requires-2 c κs = room-one (c .before .before .before .before .before .before .pre .3 .2) (is-optional c) allows-none
 
-enum-told-5 : tie.Need-enum-told-5
-enum-told-5 c = search needs
-
-is-alternative : (c : tie.After-enum-told5) → itemOf (c .before .before .before .args .i) ≡ Alternative
+is-alternative : (c : tie.After-enum-told5) → itemOf (c .before .before .before .before .before .before .args .i) ≡ Alternative
 is-alternative c = sym (c .before .before .item-of .ensures) ∙ c .enum-told5 .given .1
 
 either-requires : tie.Need-either-requires
-either-requires c κs = room-two (c .before .before .before .pre .2) (is-alternative c) unites
+either-requires c κs = room-two (c .before .before .before .before .before .before .pre .3 .2) (is-alternative c) unites
 
-enum-told-6 : tie.Need-enum-told-6
-enum-told-6 c = search needs
-
-is-sequence : (c : tie.After-enum-told6) → itemOf (c .before .before .before .args .i) ≡ Sequence
+is-sequence : (c : tie.After-enum-told6) → itemOf (c .before .before .before .before .before .before .args .i) ≡ Sequence
 is-sequence c = sym (c .before .before .item-of .ensures) ∙ c .enum-told6 .given .1
 
 followed-requires : tie.Need-followed-requires
-followed-requires c κs = room-two (c .before .before .before .pre .2) (is-sequence c) follows
+followed-requires c κs =
+    let start = c .before .before .before .before .before .before .before .before in
+    let p = start .pre in let z = room-two (p .3 .2) (is-sequence (c .before .before)) follows in (p .0, p .1, z .0, z .1)
 
 returns : tie.Need-returns
-returns c = λ k v N. after-symbol N (is-symbol (c .before .before)) (c .symbol .ensures)
+returns c = λ k v N. after-symbol N (is-symbol (c .before .before .before .before)) (λ m st H. c .before .before .symbol .ensures _ _ m st H)
 
 returns-2 : tie.Need-returns-2
-returns-2 c = λ k v N. after-one N (is-inverse (c .before)) inverts (c .inverted .ensures)
+returns-2 c =
+    let after-inverted = c .before .before .before .before .before .before in
+    let after-enum-told = after-inverted .before .before .before .before in
+    λ k v N. after-one N (is-inverse after-enum-told) inverts (after-inverted .inverted .ensures)
 
 returns-3 : tie.Need-returns-3
-returns-3 c = λ k v N. after-one N (is-star (c .before .before)) stars (λ m x st H. c .maybe .ensures m _ st (c .before .repeated .ensures .0 m x st H))
+returns-3 c =
+    λ k v N. after-one N (is-star (c .before .before .before .before .before .before .before .before)) stars
+    (λ m x st H. c .maybe .ensures _ _ _ m _ st (c .before .before .before .before .before .repeated .ensures _ m x st H))
 
 returns-4 : tie.Need-returns-4
-returns-4 c = λ k v N. after-one N (is-plus (c .before)) repeats (c .repeated2 .ensures .0)
+returns-4 c =
+    let after-repeated2 = c .before .before .before .before in
+    let after-enum-told3 = after-repeated2 .before .before .before in
+    λ k v N. after-one N (is-plus after-enum-told3) repeats (λ m x st H. after-repeated2 .repeated2 .ensures _ m x st H)
 
 returns-5 : tie.Need-returns-5
-returns-5 c = λ k v N. after-one N (is-optional (c .before)) allows-none (c .maybe2 .ensures)
+returns-5 c = λ k v N. after-one N (is-optional (c .before)) allows-none (λ m x st H. c .maybe2 .ensures _ _ _ m x st H)
 
 returns-6 : tie.Need-returns-6
-returns-6 c = λ k v N. after-two N (is-alternative (c .before)) unites (c .either .ensures)
+returns-6 c = λ k v N. after-two N (is-alternative (c .before)) unites (λ m x y st H. c .either .ensures _ _ _ m x y st H)
 
 returns-7 : tie.Need-returns-7
-returns-7 c = λ k v N. after-two N (is-sequence (c .before)) follows (c .followed .ensures)
+returns-7 c =
+    let after-followed = c .before .before .before .before in
+    let after-enum-told6 = after-followed .before .before .before in
+    λ k v N. after-two N (is-sequence after-enum-told6) follows (λ m x y st H. after-followed .followed .ensures _ m x y st H)
 
 pub step-spec : {M : Type 1} → statement M
 step-spec =
     tie.close
     (tie.spec
-    item-of-requires
-    enum-known-item
+    (λ c κs. search needs) (λ c. search needs)
     symbol-requires
-    enum-told
+    (λ c. search needs)
     inverted-requires
-    enum-told-2
+    (λ c. search needs)
     repeated-requires
     maybe-requires
-    enum-told-3
+    (λ c. search needs)
     repeated-requires-2
-    enum-told-4
+    (λ c. search needs)
     maybe-requires-2
-    enum-told-5
+    (λ c. search needs)
     either-requires
-    enum-told-6
+    (λ c. search needs)
     followed-requires
+    (λ c. search needs)
     returns
+    (λ c. search needs) (λ c. search needs) (λ c. search needs)
     returns-2
+    (λ c. search needs) (λ c. search needs)
     returns-3
+    (λ c. search needs) (λ c. search needs)
     returns-4
     returns-5
     returns-6
+    (λ c. search needs) (λ c. search needs)
     returns-7)

@@ -13,35 +13,8 @@ Inv-loop told i₀ t3 i-end i = (i ≤ i-end) × (i-end ≡ length told)
 abbrev μ-loop : tie.MeasureT-loop
 μ-loop told i₀ t3 i-end i = i-end - i
 
-loop-holds : tie.Need-loop-holds Inv-loop μ-loop
-loop-holds c = search needs
-
-slice-aggregate-count : tie.Need-slice-aggregate-count Inv-loop μ-loop
-slice-aggregate-count c = search needs
-
-mul-count : tie.Need-mul-count Inv-loop μ-loop
-mul-count c = search needs
-
-shared-slice-read-count : tie.Need-shared-slice-read-count Inv-loop μ-loop
-shared-slice-read-count c = search needs
-
 cast-count : tie.Need-cast-count Inv-loop μ-loop
 cast-count c = omega (arith, c .shared-slice-known2 .given (c .before .before .before .loop .i))
-
-count-requires : tie.Need-count-requires Inv-loop μ-loop
-count-requires c κs = search needs
-
-add-i : tie.Need-add-i Inv-loop μ-loop
-add-i c = search needs
-
-loop-less : tie.Need-loop-less Inv-loop μ-loop
-loop-less c = search needs
-
-loop-again : tie.Need-loop-again Inv-loop μ-loop
-loop-again c = search needs
-
-returns : tie.Need-returns Inv-loop μ-loop
-returns c = search needs
 
 pub numbers-spec : {M : Type 1} → statement M
 numbers-spec =
@@ -49,13 +22,6 @@ numbers-spec =
     (tie.spec
     Inv-loop
     μ-loop
-    loop-holds
-    slice-aggregate-count
-    mul-count
-    shared-slice-read-count
+    (λ c. search needs) (λ c. search needs) (λ c. search needs) (λ c. search needs)
     cast-count
-    count-requires
-    add-i
-    loop-less
-    loop-again
-    returns)
+    (λ c κs. search needs) (λ c. search needs) (λ c. search needs) (λ c. search needs) (λ c. search needs))

@@ -10,37 +10,10 @@ Inv-loop times t₀ k₀ t k = (k ≤ times) × (t .accepted ≤ k)
 abbrev μ-loop : tie.MeasureT-loop
 μ-loop times t₀ k₀ t k = times - k
 
-loop-holds : tie.Need-loop-holds Inv-loop μ-loop
-loop-holds c = search needs
-
-undo-requires : tie.Need-undo-requires Inv-loop μ-loop
-undo-requires c κs = search needs
-
-tallied-requires : tie.Need-tallied-requires Inv-loop μ-loop
-tallied-requires c κs = search needs
-
-add-k : tie.Need-add-k Inv-loop μ-loop
-add-k c = search needs
-
-loop-less : tie.Need-loop-less Inv-loop μ-loop
-loop-less c = search needs
-
-loop-again : tie.Need-loop-again Inv-loop μ-loop
-loop-again c = search needs
-
-returns : tie.Need-returns Inv-loop μ-loop
-returns c = search needs
-
 pub undone-spec : {M : Type 1} → statement M
 undone-spec =
     tie.close
     (tie.spec
     Inv-loop
     μ-loop
-    loop-holds
-    undo-requires
-    tallied-requires
-    add-k
-    loop-less
-    loop-again
-    returns)
+    (λ c. search needs) (λ c κs. search needs) (λ c κs. search needs) (λ c. search needs) (λ c. search needs) (λ c. search needs) (λ c. search needs))

@@ -12,44 +12,8 @@ Inv-loop list i₀ t3 t4 i = i ≤ length list
 abbrev μ-loop : tie.MeasureT-loop
 μ-loop list i₀ t3 t4 i = length list - i
 
-loop-holds : tie.Need-loop-holds Inv-loop μ-loop
-loop-holds c = omega arith
-
-slice-aggregate-print : tie.Need-slice-aggregate-print Inv-loop μ-loop
-slice-aggregate-print c = search needs
-
-print-requires : tie.Need-print-requires Inv-loop μ-loop
-print-requires c κs = search needs
-
-mul-print-number : tie.Need-mul-print-number Inv-loop μ-loop
-mul-print-number c = omega arith
-
-shared-slice-read-print-number : tie.Need-shared-slice-read-print-number Inv-loop μ-loop
-shared-slice-read-print-number c = omega arith
-
 cast-print-number : tie.Need-cast-print-number Inv-loop μ-loop
 cast-print-number c = omega (arith, c .shared-slice-known2 .given (c .before .before .before .before .loop .i) .fits)
-
-print-number-requires : tie.Need-print-number-requires Inv-loop μ-loop
-print-number-requires c κs = search needs
-
-add-i : tie.Need-add-i Inv-loop μ-loop
-add-i c = omega arith
-
-loop-less : tie.Need-loop-less Inv-loop μ-loop
-loop-less c = omega arith
-
-loop-again : tie.Need-loop-again Inv-loop μ-loop
-loop-again c = omega arith
-
-slice-aggregate-print-2 : tie.Need-slice-aggregate-print-2 Inv-loop μ-loop
-slice-aggregate-print-2 c = search needs
-
-print-requires-2 : tie.Need-print-requires-2 Inv-loop μ-loop
-print-requires-2 c κs = search needs
-
-returns : tie.Need-returns Inv-loop μ-loop
-returns c = search needs
 
 pub print-list-spec : {M : Type 1} → statement M
 print-list-spec =
@@ -57,16 +21,6 @@ print-list-spec =
     (tie.spec
     Inv-loop
     μ-loop
-    loop-holds
-    slice-aggregate-print
-    print-requires
-    mul-print-number
-    shared-slice-read-print-number
+    (λ c. omega arith) (λ c. search needs) (λ c κs. search needs) (λ c. omega arith) (λ c. omega arith)
     cast-print-number
-    print-number-requires
-    add-i
-    loop-less
-    loop-again
-    slice-aggregate-print-2
-    print-requires-2
-    returns)
+    (λ c κs. search needs) (λ c. omega arith) (λ c. omega arith) (λ c. omega arith) (λ c. search needs) (λ c κs. search needs) (λ c. search needs))

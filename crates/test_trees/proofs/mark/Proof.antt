@@ -26,20 +26,11 @@ set-bit-requires c κs =
     let start = c .before .before .before .before in
     omega (arith, c .before .before .loop .inv .1, start .pre .0, start .pre .1)
 
-add-i : tie.Need-add-i Inv-loop μ-loop
-add-i c = omega arith
-
-loop-less : tie.Need-loop-less Inv-loop μ-loop
-loop-less c = omega arith
-
 loop-again : tie.Need-loop-again Inv-loop μ-loop
 loop-again c =
     let l = c .before .before .before .before .before .loop in
     let s = c .before .before .set-bit in
     (omega arith, s .kept .0 ∙ l .inv .1, λ e. s .ensures ∙ ap (put (l .i) 1) (l .inv .2 e) ∙ below-more (l .i))
-
-same-length : tie.Need-same-length Inv-loop μ-loop
-same-length c = search needs
 
 returns : tie.Need-returns Inv-loop μ-loop
 returns c =
@@ -55,8 +46,7 @@ mark-spec =
     μ-loop
     loop-holds
     set-bit-requires
-    add-i
-    loop-less
+    (λ c. omega arith) (λ c. omega arith)
     loop-again
-    same-length
+    (λ c. search needs)
     returns)

@@ -11,21 +11,6 @@ use Rattle.test_trees.proofs.tree_identity_in.Tie as tie
 returns : tie.Need-returns
 returns c = λ p a i e. absurd (omega (arith, p .size))
 
-slice-aggregate-mark : tie.Need-slice-aggregate-mark
-slice-aggregate-mark c = search needs
-
-mark-requires : tie.Need-mark-requires
-mark-requires c κs = search needs
-
-slice-aggregate-on-trees : tie.Need-slice-aggregate-on-trees
-slice-aggregate-on-trees c = search needs
-
-on-trees-requires : tie.Need-on-trees-requires
-on-trees-requires c κs = search needs
-
-same-length : tie.Need-same-length
-same-length c = search needs
-
 returns-2 : tie.Need-returns-2
 returns-2 c =
     let g = c .before .before .before .before .before .before .before .before .before .before .args in
@@ -38,9 +23,5 @@ tree-identity-in-spec =
     tie.close
     (tie.spec
     returns
-    slice-aggregate-mark
-    mark-requires
-    slice-aggregate-on-trees
-    on-trees-requires
-    same-length
+    (λ c. search needs) (λ c κs. search needs) (λ c. search needs) (λ c κs. search needs) (λ c. search needs)
     returns-2)

@@ -3,18 +3,6 @@ use borrow.Author.Needs.{needs}
 use Rattle.test_trees.proofs.tree_product_in.Statement.{statement}
 use Rattle.test_trees.proofs.tree_product_in.Tie as tie
 
-sense-of-requires : tie.Need-sense-of-requires
-sense-of-requires c κs = search needs
-
-sense-of-requires-2 : tie.Need-sense-of-requires-2
-sense-of-requires-2 c κs = search needs
-
-on-two-requires : tie.Need-on-two-requires
-on-two-requires c κs = search needs
-
-same-length : tie.Need-same-length
-same-length c = search needs
-
 returns : tie.Need-returns
 returns c =
     rw (
@@ -24,4 +12,4 @@ returns c =
 
 pub tree-product-in-spec : {M : Type 1} → statement M
 tree-product-in-spec =
-    tie.close (tie.spec sense-of-requires sense-of-requires-2 on-two-requires same-length returns)
+    tie.close (tie.spec (λ c κs. search needs) (λ c κs. search needs) (λ c κs. search needs) (λ c. search needs) returns)

@@ -6,25 +6,10 @@ use Rattle.engine.specs.PreviewLaws.{preview-refused, preview-asked}
 use Rattle.engine.proofs.previews.preview.Statement.{statement}
 use Rattle.engine.proofs.previews.preview.Tie as tie
 
-apply-requires : tie.Need-apply-requires
-apply-requires c κs = search needs
-
-number-of-requires : tie.Need-number-of-requires
-number-of-requires c κs = search needs
-
 returns : tie.Need-returns
 returns c =
     let refused : c .before .number-of .result ≡ 0 → ⊥ = λ z. omega arith in
     preview-refused (c .before .before .apply .ensures) _ _ _ _ (c .before .number-of .ensures) refused
-
-pairs-requires : tie.Need-pairs-requires
-pairs-requires c κs = search needs
-
-same-length : tie.Need-same-length
-same-length c = search needs
-
-same-length-2 : tie.Need-same-length-2
-same-length-2 c = search needs
 
 returns-2 : tie.Need-returns-2
 returns-2 c =
@@ -38,10 +23,7 @@ pub preview-spec : {M : Type 1} → statement M
 preview-spec =
     tie.close
     (tie.spec
-    apply-requires
-    number-of-requires
+    (λ c κs. search needs) (λ c κs. search needs)
     returns
-    pairs-requires
-    same-length
-    same-length-2
+    (λ c κs. search needs) (λ c. search needs) (λ c. search needs)
     returns-2)

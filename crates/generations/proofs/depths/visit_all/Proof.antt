@@ -24,9 +24,6 @@ loop-holds c =
     let start = c .before .before .before in
     (omega arith, ap length (start .pre .2) ∙ length-replicate {A = ℕ} 1024 0, settled-none 1024 (start .pre .2))
 
-slice-aggregate-visit : tie.Need-slice-aggregate-visit Inv-loop μ-loop
-slice-aggregate-visit c = search needs
-
 visit-requires : tie.Need-visit-requires Inv-loop μ-loop
 visit-requires c κs =
     let at-loop = c .before .before .before in
@@ -53,12 +50,6 @@ returns c =
     let at-loop = after-visit .before .before .before .before in
     (λ e. absurd (false≢true e), λ e. settled-loop (at-loop .loop .inv .2) (after-visit .visit .ensures) (c .if1 .taken))
 
-add-y : tie.Need-add-y Inv-loop μ-loop
-add-y c = omega arith
-
-loop-less : tie.Need-loop-less Inv-loop μ-loop
-loop-less c = omega arith
-
 loop-again : tie.Need-loop-again Inv-loop μ-loop
 loop-again c =
     let after-visit = c .before .before .before in
@@ -84,12 +75,11 @@ visit-all-spec =
     μ-loop
     index-by-reached-requires
     loop-holds
-    slice-aggregate-visit
+    (λ c. search needs)
     visit-requires
     same-length
     returns
-    add-y
-    loop-less
+    (λ c. omega arith) (λ c. omega arith)
     loop-again
     same-length-2
     returns-2)

@@ -2,11 +2,13 @@
 -- left. It rests on `keep-yes` and `keep-no`. Assumes nothing.
 use mathlib.Core.Path.{_≡_, refl, ap, _∙_}
 use mathlib.Core.Logic.{⊎-elim}
-use Prim.Native.Nat.{_≤_, _-_}
+use Prim.Native.Nat.{ℕ, _≤_, _-_}
 use native.Mathlib.Omega.{arith}
 use borrow.Author.Needs.{needs}
+use lib.Dec.{eqb}
 use lib.ListN.{length, take, length-set}
 use lib.Seq.{take-all}
+use Rattle.k2.specs.Bits.{digit}
 use Rattle.rows.specs.Rows.{labelled}
 use Rattle.generations.proofs.LabelLaws.{keep-yes, keep-no}
 use Rattle.generations.proofs.labels.keep.Statement.{statement}
@@ -23,41 +25,20 @@ loop-holds : tie.Need-loop-holds Inv-loop μ-loop
 unfolding labelled
 loop-holds c = (omega arith, omega arith, refl, refl)
 
-mul-word : tie.Need-mul-word Inv-loop μ-loop
-mul-word c = omega arith
-
-shared-slice-read-word : tie.Need-shared-slice-read-word Inv-loop μ-loop
-shared-slice-read-word c = omega arith
-
-in-set-requires : tie.Need-in-set-requires Inv-loop μ-loop
-in-set-requires c κs = search needs
-
-mul-kept : tie.Need-mul-kept Inv-loop μ-loop
-mul-kept c = omega arith
-
 slice-write-kept : tie.Need-slice-write-kept Inv-loop μ-loop
 slice-write-kept c =
-    let at-loop = c .before .before .before .before in
+    let at-loop = c .before .before .before .before .before in
     let start = at-loop .before .before .before in
     omega (arith, at-loop .loop .inv .1, at-loop .loop .inv .2, start .pre)
 
-add-count : tie.Need-add-count Inv-loop μ-loop
-add-count c = omega arith
-
-add-i : tie.Need-add-i Inv-loop μ-loop
-add-i c = omega arith
-
-loop-less : tie.Need-loop-less Inv-loop μ-loop
-loop-less c = omega arith
-
 loop-again : tie.Need-loop-again Inv-loop μ-loop
 loop-again c =
-    let in-loop = c .before .before .before in
+    let in-loop = c .before .before .before .before in
     let start = in-loop .before .before .before .before in
     let l = in-loop .before .loop in
     let a = start .args in
     let h = in-loop .loop-test .taken in
-    let e = c .before .in-set .ensures in
+    let e = c .before .has-label .ensures ∙ ap (λ (k : ℕ). eqb (digit (a .set) k) 1) (c .before .before .label-of .ensures) in
     ⊎-elim
     (λ w. (
       omega arith,
@@ -91,14 +72,9 @@ keep-spec =
     Inv-loop
     μ-loop
     loop-holds
-    mul-word
-    shared-slice-read-word
-    in-set-requires
-    mul-kept
+    (λ c. omega arith) (λ c. omega arith) (λ c κs. search needs) (λ c κs. search needs) (λ c. omega arith)
     slice-write-kept
-    add-count
-    add-i
-    loop-less
+    (λ c. omega arith) (λ c. omega arith) (λ c. omega arith)
     loop-again
     same-length
     returns)

@@ -10,38 +10,35 @@ use Rattle.generations.proofs.LabelLaws.{two-more}
 use Rattle.generations.proofs.labels.put_text.Statement.{statement}
 use Rattle.generations.proofs.labels.put_text.Tie as tie
 
-put-letters-requires : tie.Need-put-letters-requires
-put-letters-requires c κs = search needs
-
 slice-write-text : tie.Need-slice-write-text
 slice-write-text c =
     let start = c .before .before .before .before .before in
-    let p = c .before .before .put-letters in
+    let p = c .before .before .spell-labels in
     let k : length (p .last .1 .0) ≡ length (start .args .text .now) = p .kept .1 .0 in
     omega (arith, k, p .ensures .0, start .pre)
 
 add-text : tie.Need-add-text
-add-text c = omega (arith, c .before .before .put-letters .ensures .0)
+add-text c = omega (arith, c .before .before .spell-labels .ensures .0)
 
 slice-write-text-2 : tie.Need-slice-write-text-2
 slice-write-text-2 c =
     let start = c .before .before .before .before .before in
-    let p = c .before .before .put-letters in
+    let p = c .before .before .spell-labels in
     let k : length (p .last .1 .0) ≡ length (start .args .text .now) = p .kept .1 .0 in
     let e = length-set (p .last .1 .0) (p .result) 41 in
     omega (arith, e, k, p .ensures .0, start .pre)
 
 add-result : tie.Need-add-result
-add-result c = omega (arith, c .before .before .put-letters .ensures .0)
+add-result c = omega (arith, c .before .before .spell-labels .ensures .0)
 
 same-length : tie.Need-same-length
-same-length c = simp (length-set, length-set) (c .before .before .put-letters .kept .1 .0)
+same-length c = simp (length-set, length-set) (c .before .before .spell-labels .kept .1 .0)
 
 returns : tie.Need-returns
 unfolding loopText
 returns c =
     let start = c .before .before .before .before .before in
-    let p = c .before .before .put-letters in
+    let p = c .before .before .spell-labels in
     let k : length (p .last .1 .0) ≡ length (start .args .text .now) = p .kept .1 .0 in (
       omega (arith, p .ensures .0),
       two-more (p .last .1 .0) (p .result) 41 43 (omega (arith, k, p .ensures .0, start .pre)) ∙ ap (λ (l : List ℕ). l ++ (41 ∷ 43 ∷ [])) (p .ensures .1),
@@ -51,7 +48,7 @@ pub put-text-spec : {M : Type 1} → statement M
 put-text-spec =
     tie.close
     (tie.spec
-    put-letters-requires
+    (λ c κs. search needs)
     slice-write-text
     add-text
     slice-write-text-2

@@ -4,11 +4,8 @@ use borrow.Author.Needs.{needs}
 use Rattle.generations.proofs.labels.separator.Statement.{statement}
 use Rattle.generations.proofs.labels.separator.Tie as tie
 
-returns : tie.Need-returns
-returns c = search needs
-
 returns-2 : tie.Need-returns-2
 returns-2 c = separator-bar (c .before .args .place) (c .if1 .left)
 
 pub separator-spec : {M : Type 1} → statement M
-separator-spec = tie.close (tie.spec returns returns-2)
+separator-spec = tie.close (tie.spec (λ c. search needs) returns-2)

@@ -20,9 +20,6 @@ abbrev μ-loop : tie.MeasureT-loop
 loop-holds : tie.Need-loop-holds Inv-loop μ-loop
 loop-holds c = (omega arith, contains-none (c .args .labels .now))
 
-shared-slice-read-set : tie.Need-shared-slice-read-set Inv-loop μ-loop
-shared-slice-read-set c = omega arith
-
 cast-set : tie.Need-cast-set Inv-loop μ-loop
 cast-set c =
     let start = c .before .before .before in
@@ -32,12 +29,6 @@ shl-set : tie.Need-shl-set Inv-loop μ-loop
 shl-set c =
     let start = c .before .before .before in
     omega (arith, above-none (start .args .labels .now) (start .pre) (c .before .before .loop .i) (c .before .loop-test .taken))
-
-add-i : tie.Need-add-i Inv-loop μ-loop
-add-i c = omega arith
-
-loop-less : tie.Need-loop-less Inv-loop μ-loop
-loop-less c = omega arith
 
 loop-again : tie.Need-loop-again Inv-loop μ-loop
 loop-again c =
@@ -59,10 +50,9 @@ set-of-spec =
     Inv-loop
     μ-loop
     loop-holds
-    shared-slice-read-set
+    (λ c. omega arith)
     cast-set
     shl-set
-    add-i
-    loop-less
+    (λ c. omega arith) (λ c. omega arith)
     loop-again
     returns)

@@ -22,28 +22,16 @@ abbrev μ-loop : tie.MeasureT-loop
 loop-holds : tie.Need-loop-holds Inv-loop μ-loop
 loop-holds c = (omega arith, omega arith, refl, refl, through-none _ _ _ _ _)
 
-mul-mask : tie.Need-mul-mask Inv-loop μ-loop
-mul-mask c = omega arith
-
-slice-read-mask : tie.Need-slice-read-mask Inv-loop μ-loop
-slice-read-mask c = omega arith
-
 compose-row-requires : tie.Need-compose-row-requires Inv-loop μ-loop
 compose-row-requires c κs =
     let l = c .before .before .before .before .before .loop in
-    (omega arith, omega arith, omega arith, omega arith, omega arith, omega arith, l .inv .1)
+    (omega arith, omega arith, l .inv .1)
 
 add-b : tie.Need-add-b Inv-loop μ-loop
 add-b c =
     let a = c .before .before .before .before .before .before .args in
     let l = c .before .before .before .loop in
     omega (arith, unit-fits (a .n) (a .w) (omega arith) (omega arith), row-inside (l .x) (a .n) (a .w) (l .b) (omega arith) (l .inv .1))
-
-add-x : tie.Need-add-x Inv-loop μ-loop
-add-x c = omega arith
-
-loop-less : tie.Need-loop-less Inv-loop μ-loop
-loop-less c = omega arith
 
 loop-again : tie.Need-loop-again Inv-loop μ-loop
 loop-again c =
@@ -71,12 +59,6 @@ loop-again c =
     ))
     (c .if1 .came)
 
-same-length : tie.Need-same-length Inv-loop μ-loop
-same-length c = search needs
-
-same-length-2 : tie.Need-same-length-2 Inv-loop μ-loop
-same-length-2 c = search needs
-
 returns : tie.Need-returns Inv-loop μ-loop
 returns c =
     let a = c .before .before .before .before .args in
@@ -92,13 +74,10 @@ compose-spec =
     Inv-loop
     μ-loop
     loop-holds
-    mul-mask
-    slice-read-mask
+    (λ c. omega arith) (λ c. omega arith)
     compose-row-requires
     add-b
-    add-x
-    loop-less
+    (λ c. omega arith) (λ c. omega arith)
     loop-again
-    same-length
-    same-length-2
+    (λ c. search needs) (λ c. search needs)
     returns)

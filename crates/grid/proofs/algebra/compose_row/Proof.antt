@@ -16,32 +16,14 @@ long c =
     let start = c .before .before .before .before .before in
     c .product-row .kept .1 .0 ∙ length-set (start .args .masks .now) (start .args .n + start .args .n) 0
 
-add-masks : tie.Need-add-masks
-add-masks c = search needs
-
-mul-masks : tie.Need-mul-masks
-mul-masks c = search needs
-
-slice-write-masks : tie.Need-slice-write-masks
-slice-write-masks c = search needs
-
 product-row-requires : tie.Need-product-row-requires
 product-row-requires c κs =
     let a = c .before .before .before .before .args in
     let k : length (set (a .masks .now) (a .n + a .n) 0) ≡ length (a .masks .now) = length-set (a .masks .now) (a .n + a .n) 0 in
-    (omega arith, omega arith, omega arith, omega arith, omega (arith, k), omega arith)
-
-mul-masks-2 : tie.Need-mul-masks-2
-mul-masks-2 c = search needs
+    (omega (arith, k), omega arith)
 
 slice-write-masks-2 : tie.Need-slice-write-masks-2
 slice-write-masks-2 c = omega (arith, long (c .before .before .before .before))
-
-add-source : tie.Need-add-source
-add-source c = search needs
-
-mul-source : tie.Need-mul-source
-mul-source c = search needs
 
 slice-read-source : tie.Need-slice-read-source
 slice-read-source c = simp length-set (omega (arith, long (c .before .before .before .before .before)))
@@ -63,9 +45,6 @@ merge-requires c κs =
     let z = row-inside (a .x) (a .n) (a .w) (a .b) (omega arith) (omega arith) in
     let k : length (after-product-row .product-row .last .0) ≡ length (a .cells .now) = after-product-row .product-row .kept .0 in
     (simp length-set (omega (arith, long after-product-row)), omega arith, omega (arith, k, z), omega (arith, k))
-
-same-length : tie.Need-same-length
-same-length c = search needs
 
 same-length-2 : tie.Need-same-length-2
 same-length-2 c =
@@ -89,18 +68,15 @@ pub compose-row-spec : {M : Type 1} → statement M
 compose-row-spec =
     tie.close
     (tie.spec
-    add-masks
-    mul-masks
-    slice-write-masks
+    (λ c. search needs) (λ c. search needs) (λ c. search needs)
     product-row-requires
-    mul-masks-2
+    (λ c. search needs)
     slice-write-masks-2
-    add-source
-    mul-source
+    (λ c. search needs) (λ c. search needs)
     slice-read-source
     mul-unit
     add-merge
     merge-requires
-    same-length
+    (λ c. search needs)
     same-length-2
     returns)

@@ -31,12 +31,6 @@ mul-b c =
       rows-apart (c .before .before .args .x) (c .before .before .args .n) (c .before .before .args .w) (omega arith),
     )
 
-mul-mask : tie.Need-mul-mask Inv-loop μ-loop
-mul-mask c = omega arith
-
-slice-read-mask : tie.Need-slice-read-mask Inv-loop μ-loop
-slice-read-mask c = omega arith
-
 next-requires : tie.Need-next-requires Inv-loop μ-loop
 next-requires c κs =
     let a = c .before .before .before .before .args in
@@ -52,18 +46,6 @@ loop-holds c =
       refl,
       gathered-none (a .n) (a .w) (a .x) (a .cells .now) (a .masks .now) (omega arith) (omega arith) (c .next .result) (L .1),
     )
-
-add-source : tie.Need-add-source Inv-loop μ-loop
-add-source c = omega arith
-
-mul-source : tie.Need-mul-source Inv-loop μ-loop
-mul-source c = omega arith
-
-slice-read-source : tie.Need-slice-read-source Inv-loop μ-loop
-slice-read-source c = omega arith
-
-add-merge : tie.Need-add-merge Inv-loop μ-loop
-add-merge c = omega arith
 
 add-merge-2 : tie.Need-add-merge-2 Inv-loop μ-loop
 add-merge-2 c =
@@ -96,9 +78,6 @@ merge-requires c κs =
     let l = c .before .before .before .before .loop in
     let s = rows-apart (l .z) (a .n) (a .w) (omega arith) in
     (omega arith, omega arith, omega arith, omega (arith, s))
-
-add-next : tie.Need-add-next Inv-loop μ-loop
-add-next c = omega arith
 
 next-requires-2 : tie.Need-next-requires-2 Inv-loop μ-loop
 next-requires-2 c κs =
@@ -137,12 +116,6 @@ loop-again c =
           (l .cells) (l .masks) (l .inv .4) (c .next2 .result) _ _ zl (l .inv .1 (omega arith)) P N,
     )
 
-same-length : tie.Need-same-length Inv-loop μ-loop
-same-length c = search needs
-
-same-length-2 : tie.Need-same-length-2 Inv-loop μ-loop
-same-length-2 c = search needs
-
 returns : tie.Need-returns Inv-loop μ-loop
 returns c =
     let a = c .before .before .before .before .before .before .before .args in
@@ -157,22 +130,17 @@ product-row-spec =
     μ-loop
     mul-unit
     mul-b
-    mul-mask
-    slice-read-mask
+    (λ c. omega arith) (λ c. omega arith)
     next-requires
     loop-holds
-    add-source
-    mul-source
-    slice-read-source
-    add-merge
+    (λ c. omega arith) (λ c. omega arith) (λ c. omega arith) (λ c. omega arith)
     add-merge-2
     mul-merge
     add-merge-3
     merge-requires
-    add-next
+    (λ c. omega arith)
     next-requires-2
     loop-less
     loop-again
-    same-length
-    same-length-2
+    (λ c. search needs) (λ c. search needs)
     returns)

@@ -19,21 +19,6 @@ abbrev μ-loop : tie.MeasureT-loop
 loop-holds : tie.Need-loop-holds Inv-loop μ-loop
 loop-holds c = (omega arith, refl, λ k h. refl, λ k h. absurd (omega arith))
 
-add-masks : tie.Need-add-masks Inv-loop μ-loop
-add-masks c = omega arith
-
-mul-masks : tie.Need-mul-masks Inv-loop μ-loop
-mul-masks c = omega arith
-
-slice-write-masks : tie.Need-slice-write-masks Inv-loop μ-loop
-slice-write-masks c = omega arith
-
-add-x : tie.Need-add-x Inv-loop μ-loop
-add-x c = omega arith
-
-loop-less : tie.Need-loop-less Inv-loop μ-loop
-loop-less c = omega arith
-
 loop-again : tie.Need-loop-again Inv-loop μ-loop
 loop-again c =
     let a = c .before .before .args in
@@ -43,9 +28,6 @@ loop-again c =
       λ k h. getD-set-other (l .masks) (a .n + l .x) k 0 0 (λ e. absurd (omega arith)) ∙ l .inv .2 k h,
       second-zero (l .masks) (a .n) (l .x) (omega arith) (l .inv .3),
     )
-
-same-length : tie.Need-same-length Inv-loop μ-loop
-same-length c = search needs
 
 returns : tie.Need-returns Inv-loop μ-loop
 returns c =
@@ -59,11 +41,7 @@ start-second-spec =
     Inv-loop
     μ-loop
     loop-holds
-    add-masks
-    mul-masks
-    slice-write-masks
-    add-x
-    loop-less
+    (λ c. omega arith) (λ c. omega arith) (λ c. omega arith) (λ c. omega arith) (λ c. omega arith)
     loop-again
-    same-length
+    (λ c. search needs)
     returns)

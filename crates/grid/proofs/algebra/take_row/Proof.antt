@@ -9,18 +9,6 @@ use Rattle.grid.proofs.TransposeLaws.{taken-row}
 use Rattle.grid.proofs.algebra.take_row.Statement.{statement}
 use Rattle.grid.proofs.algebra.take_row.Tie as tie
 
-mul-masks : tie.Need-mul-masks
-mul-masks c = search needs
-
-slice-write-masks : tie.Need-slice-write-masks
-slice-write-masks c = search needs
-
-add-source : tie.Need-add-source
-add-source c = search needs
-
-mul-source : tie.Need-mul-source
-mul-source c = search needs
-
 slice-read-source : tie.Need-slice-read-source
 slice-read-source c = simp length-set (omega arith)
 
@@ -39,9 +27,6 @@ merge-requires c κs =
     let k : length (set (a .masks .now) (a .x) 0) ≡ length (a .masks .now) = length-set (a .masks .now) (a .x) 0 in
     (omega (arith, k), omega arith, omega (arith, z), omega (arith, z))
 
-same-length : tie.Need-same-length
-same-length c = search needs
-
 same-length-2 : tie.Need-same-length-2
 same-length-2 c =
     let after-merge = c .before .before .before .before in
@@ -59,14 +44,11 @@ pub take-row-spec : {M : Type 1} → statement M
 take-row-spec =
     tie.close
     (tie.spec
-    mul-masks
-    slice-write-masks
-    add-source
-    mul-source
+    (λ c. search needs) (λ c. search needs) (λ c. search needs) (λ c. search needs)
     slice-read-source
     mul-unit
     add-merge
     merge-requires
-    same-length
+    (λ c. search needs)
     same-length-2
     returns)

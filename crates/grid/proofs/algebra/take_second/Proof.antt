@@ -22,20 +22,11 @@ abbrev μ-loop : tie.MeasureT-loop
 loop-holds : tie.Need-loop-holds Inv-loop μ-loop
 loop-holds c = (omega arith, omega arith, refl, refl, through-none _ _ _ _ _)
 
-take-row-requires : tie.Need-take-row-requires Inv-loop μ-loop
-take-row-requires c κs = omega arith
-
 add-b : tie.Need-add-b Inv-loop μ-loop
 add-b c =
     let a = c .before .before .before .before .before .before .before .before .before .before .before .args in
     let l = c .before .before .before .before .before .before .before .before .loop in
     omega (arith, unit-fits (a .n) (a .w) (omega arith) (omega arith), row-inside (l .x) (a .n) (a .w) (l .b) (omega arith) (l .inv .1))
-
-add-x : tie.Need-add-x Inv-loop μ-loop
-add-x c = omega arith
-
-loop-less : tie.Need-loop-less Inv-loop μ-loop
-loop-less c = omega arith
 
 loop-again : tie.Need-loop-again Inv-loop μ-loop
 loop-again c =
@@ -52,12 +43,6 @@ loop-again c =
       taken-more (a .n) (a .w) (l .x) (l .b) (a .cells .now) (a .masks .now) (l .cells) (l .masks) _ _ (omega arith) (l .inv .1) (l .inv .4) (m .ensures),
     )
 
-same-length : tie.Need-same-length Inv-loop μ-loop
-same-length c = search needs
-
-same-length-2 : tie.Need-same-length-2 Inv-loop μ-loop
-same-length-2 c = search needs
-
 returns : tie.Need-returns Inv-loop μ-loop
 returns c =
     let a = c .before .before .before .before .args in
@@ -72,11 +57,9 @@ take-second-spec =
     Inv-loop
     μ-loop
     loop-holds
-    take-row-requires
+    (λ c κs. omega arith)
     add-b
-    add-x
-    loop-less
+    (λ c. omega arith) (λ c. omega arith)
     loop-again
-    same-length
-    same-length-2
+    (λ c. search needs) (λ c. search needs)
     returns)

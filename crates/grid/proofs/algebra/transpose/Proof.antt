@@ -16,9 +16,6 @@ Inv-loop cells₀ masks₀ n w x₀ cells masks x =
 abbrev μ-loop : tie.MeasureT-loop
 μ-loop cells₀ masks₀ n w x₀ cells masks x = n - x
 
-start-second-requires : tie.Need-start-second-requires Inv-loop μ-loop
-start-second-requires c κs = omega arith
-
 loop-holds : tie.Need-loop-holds Inv-loop μ-loop
 loop-holds c =
     let a = c .before .before .before .before .before .before .args in
@@ -31,12 +28,6 @@ long c = c .start-second .kept .0
 
 turn-row-requires : tie.Need-turn-row-requires Inv-loop μ-loop
 turn-row-requires c κs = omega (arith, long (c .before .before .before .before .before .before))
-
-add-x : tie.Need-add-x Inv-loop μ-loop
-add-x c = omega arith
-
-loop-less : tie.Need-loop-less Inv-loop μ-loop
-loop-less c = omega arith
 
 loop-again : tie.Need-loop-again Inv-loop μ-loop
 loop-again c =
@@ -83,11 +74,10 @@ transpose-spec =
     (tie.spec
     Inv-loop
     μ-loop
-    start-second-requires
+    (λ c κs. omega arith)
     loop-holds
     turn-row-requires
-    add-x
-    loop-less
+    (λ c. omega arith) (λ c. omega arith)
     loop-again
     take-second-requires
     same-length

@@ -30,12 +30,6 @@ mul-b c =
     let a = c .before .before .args in
     omega (arith, unit-fits (a .n) (a .w) (omega arith) (omega arith), rows-apart (a .x) (a .n) (a .w) (omega arith))
 
-mul-mask : tie.Need-mul-mask Inv-loop μ-loop
-mul-mask c = omega arith
-
-slice-read-mask : tie.Need-slice-read-mask Inv-loop μ-loop
-slice-read-mask c = omega arith
-
 next-requires : tie.Need-next-requires Inv-loop μ-loop
 next-requires c κs =
     let a = c .before .before .before .before .args in
@@ -52,9 +46,6 @@ loop-holds c =
       turned-none (a .n) (a .w) (a .x) (a .cells .now) (a .masks .now) (c .next .result) (unfold firstRows in (L .1 .gap)),
     )
 
-add-put : tie.Need-add-put Inv-loop μ-loop
-add-put c = omega arith
-
 mul-put : tie.Need-mul-put Inv-loop μ-loop
 mul-put c =
     let a = c .before .before .before .before .before .before .before .before .before .args in
@@ -65,16 +56,10 @@ add-put-2 c =
     let a = c .before .before .before .before .before .before .before .before .before .args in
     omega (arith, unit-fits (a .n) (a .w) (omega arith) (omega arith), rows-apart (c .before .before .before .loop .y) (a .n) (a .w) (omega arith))
 
-shl-put : tie.Need-shl-put Inv-loop μ-loop
-shl-put c = omega arith
-
 put-requires : tie.Need-put-requires Inv-loop μ-loop
 put-requires c κs =
     let a = c .before .before .before .before .before .before .before .before .before .args in
     (omega arith, omega arith, omega (arith, rows-apart (c .before .before .before .loop .y) (a .n) (a .w) (omega arith)))
-
-add-next : tie.Need-add-next Inv-loop μ-loop
-add-next c = omega arith
 
 next-requires-2 : tie.Need-next-requires-2 Inv-loop μ-loop
 next-requires-2 c κs =
@@ -112,12 +97,6 @@ loop-again c =
           (l .cells) (l .masks) _ _ nl xl yl (l .inv .1 (omega arith)) P (l .inv .4) N,
     )
 
-same-length : tie.Need-same-length Inv-loop μ-loop
-same-length c = search needs
-
-same-length-2 : tie.Need-same-length-2 Inv-loop μ-loop
-same-length-2 c = search needs
-
 returns : tie.Need-returns Inv-loop μ-loop
 returns c =
     let a = c .before .before .before .before .before .before .before .args in
@@ -132,19 +111,17 @@ turn-row-spec =
     μ-loop
     mul-unit
     mul-b
-    mul-mask
-    slice-read-mask
+    (λ c. omega arith) (λ c. omega arith)
     next-requires
     loop-holds
-    add-put
+    (λ c. omega arith)
     mul-put
     add-put-2
-    shl-put
+    (λ c. omega arith)
     put-requires
-    add-next
+    (λ c. omega arith)
     next-requires-2
     loop-less
     loop-again
-    same-length
-    same-length-2
+    (λ c. search needs) (λ c. search needs)
     returns)

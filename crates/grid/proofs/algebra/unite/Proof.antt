@@ -26,15 +26,6 @@ mul-unit c = omega (arith, unit-fits (c .before .before .args .n) (c .before .be
 loop-holds : tie.Need-loop-holds Inv-loop μ-loop
 loop-holds c = (omega arith, omega arith, refl, refl, through-none _ _ _ _ _)
 
-add-source : tie.Need-add-source Inv-loop μ-loop
-add-source c = omega arith
-
-mul-source : tie.Need-mul-source Inv-loop μ-loop
-mul-source c = omega arith
-
-slice-read-source : tie.Need-slice-read-source Inv-loop μ-loop
-slice-read-source c = omega arith
-
 add-merge : tie.Need-add-merge Inv-loop μ-loop
 add-merge c =
     let at-loop = c .before .before .before .before in
@@ -65,12 +56,6 @@ add-b c =
       row-inside (l .x) (start .args .n) (start .args .w) (l .b) (omega arith) (l .inv .1),
     )
 
-add-x : tie.Need-add-x Inv-loop μ-loop
-add-x c = omega arith
-
-loop-less : tie.Need-loop-less Inv-loop μ-loop
-loop-less c = omega arith
-
 loop-again : tie.Need-loop-again Inv-loop μ-loop
 loop-again c =
     let after-merge = c .before .before .before .before in
@@ -92,12 +77,6 @@ loop-again c =
           (unite-row (a .n) (a .w) (l .x) (l .b) _ (a .cells .now) (a .masks .now) (l .cells) (l .masks) (omega arith) (l .inv .1) T y h))),
     )
 
-same-length : tie.Need-same-length Inv-loop μ-loop
-same-length c = search needs
-
-same-length-2 : tie.Need-same-length-2 Inv-loop μ-loop
-same-length-2 c = search needs
-
 returns : tie.Need-returns Inv-loop μ-loop
 returns c =
     let a = c .before .before .before .before .args in
@@ -113,15 +92,11 @@ unite-spec =
     μ-loop
     mul-unit
     loop-holds
-    add-source
-    mul-source
-    slice-read-source
+    (λ c. omega arith) (λ c. omega arith) (λ c. omega arith)
     add-merge
     merge-requires
     add-b
-    add-x
-    loop-less
+    (λ c. omega arith) (λ c. omega arith)
     loop-again
-    same-length
-    same-length-2
+    (λ c. search needs) (λ c. search needs)
     returns)

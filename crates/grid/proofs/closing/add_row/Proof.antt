@@ -5,7 +5,7 @@ use Prim.Native.Nat.{_+_, _-_, _<_}
 use native.Mathlib.Omega.{arith}
 use lib.ListN.{length, length-set}
 use Rattle.k2.specs.Bits.{digit}
-use Rattle.grid.proofs.ClosureLaws.{Adding, adding-none, adding-gap, adding-word}
+use Rattle.grid.proofs.SearchLaws.{Adding, adding-none, adding-gap, adding-word}
 use Rattle.grid.proofs.closing.add_row.Statement.{statement}
 use Rattle.grid.proofs.closing.add_row.Tie as tie
 
@@ -28,29 +28,11 @@ loop-holds c =
           (adding-none (a .w) (a .b) (a .mask) (a .cells .now) (a .set .now)),
     )
 
-mul-set : tie.Need-mul-set Inv-loop μ-loop
-mul-set c = omega arith
-
 slice-read-set : tie.Need-slice-read-set Inv-loop μ-loop
 slice-read-set c = omega (arith, c .before .before .loop .inv .0)
 
-add-set : tie.Need-add-set Inv-loop μ-loop
-add-set c = omega arith
-
-mul-set-2 : tie.Need-mul-set-2 Inv-loop μ-loop
-mul-set-2 c = omega arith
-
-shared-slice-read-set : tie.Need-shared-slice-read-set Inv-loop μ-loop
-shared-slice-read-set c = omega arith
-
-mul-set-3 : tie.Need-mul-set-3 Inv-loop μ-loop
-mul-set-3 c = omega arith
-
 slice-write-set : tie.Need-slice-write-set Inv-loop μ-loop
 slice-write-set c = omega (arith, c .before .before .before .loop .inv .0)
-
-above-requires : tie.Need-above-requires Inv-loop μ-loop
-above-requires c κs = omega arith
 
 loop-less : tie.Need-loop-less Inv-loop μ-loop
 loop-less c = omega (arith, c .above .ensures .low)
@@ -80,14 +62,11 @@ add-row-spec =
     μ-loop
     lowest-requires
     loop-holds
-    mul-set
+    (λ c. omega arith)
     slice-read-set
-    add-set
-    mul-set-2
-    shared-slice-read-set
-    mul-set-3
+    (λ c. omega arith) (λ c. omega arith) (λ c. omega arith) (λ c. omega arith)
     slice-write-set
-    above-requires
+    (λ c κs. omega arith)
     loop-less
     loop-again
     same-length

@@ -8,29 +8,8 @@ use Rattle.grid.proofs.ClosureLaws.{onward-same, onward-next, onward-be
 use Rattle.grid.proofs.closing.close_from.Statement.{statement}
 use Rattle.grid.proofs.closing.close_from.Tie as tie
 
-add-bit : tie.Need-add-bit
-add-bit c = search needs
-
-bit-requires : tie.Need-bit-requires
-bit-requires c κs = search needs
-
-same-length : tie.Need-same-length
-same-length c = search needs
-
 returns : tie.Need-returns
 returns c = onward-same _ _ _ _ _
-
-add-set-bit : tie.Need-add-set-bit
-add-set-bit c = search needs
-
-set-bit-requires : tie.Need-set-bit-requires
-set-bit-requires c κs = search needs
-
-cast-stack : tie.Need-cast-stack
-cast-stack c = search needs
-
-slice-write-stack : tie.Need-slice-write-stack
-slice-write-stack c = search needs
 
 search-on-requires : tie.Need-search-on-requires
 search-on-requires c κs =
@@ -41,16 +20,7 @@ search-on-requires c κs =
     let s = after-set-bit .set-bit in
     let q : length (s .last .0) ≡ length (a .marks .now) = s .kept .0 in
     let r : length (set (a .stack .now) 0 (a .x)) ≡ length (a .stack .now) = length-set (a .stack .now) 0 (a .x) in
-    (p .0, p .1, p .2, p .3, p .4, q ∙ p .5, r ∙ p .6)
-
-same-length-2 : tie.Need-same-length-2
-same-length-2 c = search needs
-
-same-length-3 : tie.Need-same-length-3
-same-length-3 c = search needs
-
-same-length-4 : tie.Need-same-length-4
-same-length-4 c = search needs
+    (p .0, q ∙ p .1, r ∙ p .2)
 
 same-length-5 : tie.Need-same-length-5
 same-length-5 c =
@@ -66,26 +36,20 @@ returns-2 c =
     let after-set-bit = after-search-on .before .before .before .before .before .before .before in
     let start = after-set-bit .before .before .before .before .before .before .before .before .before in
     let a = start .args in
-    let l = start .pre .0 in
+    let l = start .pre .0 .small in
     onward-next
-    (onward-beyond (a .n) (a .w) (1024 + a .x) (a .marks .now) _ (a .cells .now) (a .masks .now) (omega (arith, l)) (after-set-bit .set-bit .ensures))
+    (onward-beyond (a .n) (a .w) (1024 + a .x) (a .marks .now) _ (a .cells .now) (a .masks .now)
+    (omega (arith, l)) (omega (arith, l, start .pre .3)) (after-set-bit .set-bit .ensures))
     (after-search-on .search-on .ensures)
 
 pub close-from-spec : {M : Type 1} → statement M
 close-from-spec =
     tie.close
     (tie.spec
-    add-bit
-    bit-requires
-    same-length
+    (λ c. search needs) (λ c κs. search needs) (λ c. search needs)
     returns
-    add-set-bit
-    set-bit-requires
-    cast-stack
-    slice-write-stack
+    (λ c. search needs) (λ c κs. search needs) (λ c. search needs) (λ c. search needs)
     search-on-requires
-    same-length-2
-    same-length-3
-    same-length-4
+    (λ c. search needs) (λ c. search needs) (λ c. search needs)
     same-length-5
     returns-2)

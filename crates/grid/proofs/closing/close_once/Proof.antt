@@ -13,29 +13,8 @@ use Rattle.grid.proofs.closing.close_once.Tie as tie
 returns : tie.Need-returns
 returns c = (onward-same _ _ _ _ _, λ h. absurd (omega arith))
 
-bit-requires : tie.Need-bit-requires
-bit-requires c κs = search needs
-
-same-length : tie.Need-same-length
-same-length c = search needs
-
 returns-2 : tie.Need-returns-2
 returns-2 c = (onward-same _ _ _ _ _, λ h. sym (c .before .bit .ensures) ∙ c .if2 .taken)
-
-close-row-requires : tie.Need-close-row-requires
-close-row-requires c κs = search needs
-
-set-bit-requires : tie.Need-set-bit-requires
-set-bit-requires c κs = search needs
-
-same-length-2 : tie.Need-same-length-2
-same-length-2 c = search needs
-
-same-length-3 : tie.Need-same-length-3
-same-length-3 c = search needs
-
-same-length-4 : tie.Need-same-length-4
-same-length-4 c = search needs
 
 returns-3 : tie.Need-returns-3
 returns-3 c =
@@ -44,9 +23,9 @@ returns-3 c =
     let start = else2 .before .before .before .before .before .before .before in
     let a = start .args in
     let s = c .before .before .set-bit .ensures in
-    let none : bitAt (a .closed .now) (a .x) ≡ 0 = omega (arith, else2 .before .bit .ensures, else2 .if2 .left, bit-lt (a .closed .now) (a .x)) in (
-      onward-row (a .n) (a .w) (a .x) (a .closed .now) _ (a .cells .now) (a .masks .now) _ _ none s (after-close-row .close-row .ensures),
-      λ h. ap (λ (f : ℕ → ℕ). f (a .x)) s ∙ put-at (a .x) 1 (bitAt (a .closed .now)),
+    let none : bitAt (a .marks .now) (a .x) ≡ 0 = omega (arith, else2 .before .bit .ensures, else2 .if2 .left, bit-lt (a .marks .now) (a .x)) in (
+      onward-row (a .n) (a .w) (a .x) (a .marks .now) _ (a .cells .now) (a .masks .now) _ _ (omega arith) none s (after-close-row .close-row .ensures),
+      λ h. ap (λ (f : ℕ → ℕ). f (a .x)) s ∙ put-at (a .x) 1 (bitAt (a .marks .now)),
     )
 
 pub close-once-spec : {M : Type 1} → statement M
@@ -54,12 +33,7 @@ close-once-spec =
     tie.close
     (tie.spec
     returns
-    bit-requires
-    same-length
+    (λ c κs. search needs) (λ c. search needs)
     returns-2
-    close-row-requires
-    set-bit-requires
-    same-length-2
-    same-length-3
-    same-length-4
+    (λ c κs. search needs) (λ c κs. search needs) (λ c. search needs) (λ c. search needs) (λ c. search needs)
     returns-3)

@@ -1,7 +1,7 @@
 -- `close_row` searches from row x. The loop's invariant: row x and the set of what is seen are a search's, the other rows are as they were (`Searching`),
--- and z is found and not seen, or all that is found is. The measure is the records not seen. It rests on `searching-more`, `row-done` and `row-back`.
--- Assumes nothing.
-use mathlib.Core.Path.{_≡_, refl, sym, ap, _∙_}
+-- and z is found and not seen, or all that is found is. Records with empty rows are seen from the first. The measure is the records not seen. It rests on
+-- `searching-more`, `row-done` and `row-back`. Assumes nothing.
+use mathlib.Core.Path.{_≡_, refl, sym, _∙_}
 use Prim.Native.Nat.{ℕ, _+_, _*_, _-_, _≤_, _<_, max}
 use native.Mathlib.Omega.{arith}
 use borrow.Author.Needs.{needs}
@@ -10,43 +10,32 @@ use lib.ListN.{length}
 use Rattle.book.specs.Basics.{pick}
 use Rattle.k2.specs.Bits.{bitAt, onesBelow}
 use Rattle.k2.specs.BitLaws.{bit-lt}
-use Rattle.bits.specs.BitSets.{none, put}
-use Rattle.bits.specs.BitSetLaws.{bits-none}
+use Rattle.bits.specs.BitSets.{put}
 use Rattle.grid.specs.Grid.{firstRows}
 use Rattle.grid.specs.Steps.{Fresh}
 use Rattle.grid.proofs.RelationLaws.{rows-apart, unit-fits}
-use Rattle.grid.proofs.ClosureLaws.{Searching, searching-none, searching-more, left-less, row-done, row-back}
+use Rattle.grid.proofs.SearchLaws.{Searching, searching-none, searching-more, left-less, row-done, row-back}
 use Rattle.grid.proofs.closing.close_row.Statement.{statement}
 use Rattle.grid.proofs.closing.close_row.Tie as tie
 
 abbrev Inv-loop : tie.InvT-loop
-Inv-loop cells₀ masks₀ n w x closed seen₀ z₀ cells masks seen z =
-    (length cells ≡ length cells₀) × (length masks ≡ length masks₀) × (length seen ≡ 16) × Fresh n (firstRows w cells masks x) (bitAt seen) z
-    × Searching n w x (bitAt closed) (bitAt seen) cells₀ masks₀ cells masks
+Inv-loop cells₀ masks₀ n w x marks seen₀ z₀ cells masks seen z =
+    (length cells ≡ length cells₀) × (length masks ≡ length masks₀) × (length seen ≡ 16) × Fresh n w (firstRows w cells masks x) (bitAt seen) z
+    × Searching n w x (bitAt marks) (bitAt seen) cells₀ masks₀ cells masks
 
 abbrev μ-loop : tie.MeasureT-loop
-μ-loop cells₀ masks₀ n w x closed seen₀ z₀ cells masks seen z = onesBelow (λ y. 1 - bitAt seen y) n
-
-mul-fresh : tie.Need-mul-fresh Inv-loop μ-loop
-mul-fresh c = omega arith
-
-slice-read-fresh : tie.Need-slice-read-fresh Inv-loop μ-loop
-slice-read-fresh c = omega arith
-
-slice-aggregate-fresh : tie.Need-slice-aggregate-fresh Inv-loop μ-loop
-slice-aggregate-fresh c = omega arith
-
-fresh-requires : tie.Need-fresh-requires Inv-loop μ-loop
-fresh-requires c κs = search needs
+μ-loop cells₀ masks₀ n w x marks seen₀ z₀ cells masks seen z = onesBelow (λ y. 1 - bitAt seen y) n
 
 loop-holds : tie.Need-loop-holds Inv-loop μ-loop
 loop-holds c =
-    let a = c .before .before .before .before .before .before .before .args in (
+    let E = c .before .before .before .before .empty-records in
+    let start = c .before .before .before .before .before .before .before .before in
+    let a = start .args in (
       refl,
       refl,
-      refl,
+      omega arith,
       unfold firstRows in (c .fresh .ensures),
-      searching-none (a .n) (a .w) (a .x) _ _ (a .cells .now) (a .masks .now) (omega arith) (λ u. unfold none in (ap (λ (f : ℕ → ℕ). f u) (bits-none 16))),
+      searching-none (a .n) (a .w) (a .x) _ _ (a .cells .now) (a .masks .now) (start .pre .0 .small) (start .pre .0 .narrow) (start .pre .1) (E .ensures),
     )
 
 bit-requires : tie.Need-bit-requires Inv-loop μ-loop
@@ -58,18 +47,15 @@ lead-on-requires c κs = let l = c .before .before .before .before .loop in omeg
 -- the lengths, and that row z ends before the words do
 after : (c : tie.After-lead-on Inv-loop μ-loop)
     → let at-loop = c .before .before .before .before .before in
-    let start = at-loop .before .before .before .before .before .before .before .before in
+    let start = at-loop .before .before .before .before .before .before .before .before .before in
     let a = start .args in
     (length (c .lead-on .last .0) ≡ length (a .cells .now)) × (length (c .lead-on .last .1 .0) ≡ length (a .masks .now))
     × (a .n * a .w ≤ 16384) × (at-loop .loop .z * a .w + a .w ≤ a .n * a .w)
 after c =
-    let a = c .before .before .before .before .before .before .before .before .before .before .before .before .before .args in
+    let a = c .before .before .before .before .before .before .before .before .before .before .before .before .before .before .args in
     let l = c .before .before .before .before .before .loop in
     let o = c .lead-on in
     (o .kept .0 ∙ l .inv .0, o .kept .1 .0 ∙ l .inv .1, unit-fits (a .n) (a .w) (omega arith) (omega arith), rows-apart (l .z) (a .n) (a .w) (omega arith))
-
-mul-leads-back : tie.Need-mul-leads-back Inv-loop μ-loop
-mul-leads-back c = omega arith
 
 slice-read-leads-back : tie.Need-slice-read-leads-back Inv-loop μ-loop
 slice-read-leads-back c = omega (arith, after (c .before .before .before .before .before .before) .1)
@@ -90,17 +76,14 @@ returns : tie.Need-returns Inv-loop μ-loop
 returns c =
     let after-lead-on = c .before .before .before .before .before .before .before .before in
     let after-bit = after-lead-on .before .before .before in
-    let start = after-bit .before .before .before .before .before .before .before .before .before .before in
+    let start = after-bit .before .before .before .before .before .before .before .before .before .before .before in
     let a = start .args in
     let l = after-bit .before .before .loop in
     let zl : l .z < a .n = omega arith in
     let back = c .before .leads-back .ensures (c .if1 .taken) in
-    row-back (a .n) (a .w) (a .x) (l .z) (bitAt (a .closed .now)) (bitAt (l .seen)) (a .cells .now) (a .masks .now) (l .cells) (l .masks) _ _
-    (start .pre .2) (start .pre .5) zl (after-lead-on .lead-on .ensures) (l .inv .3 .found zl .0) (l .inv .4)
+    row-back (a .n) (a .w) (a .x) (l .z) (bitAt (a .marks .now)) (bitAt (l .seen)) (a .cells .now) (a .masks .now) (l .cells) (l .masks) _ _
+    (start .pre .0 .wide) (start .pre .1) zl (after-lead-on .lead-on .ensures) (l .inv .3 .found zl .0) (l .inv .4)
     (sym (after-bit .bit .ensures) ∙ back .0) (unfold firstRows in (back .1))
-
-mul-mark : tie.Need-mul-mark Inv-loop μ-loop
-mul-mark c = omega arith
 
 slice-read-mark : tie.Need-slice-read-mark Inv-loop μ-loop
 slice-read-mark c = omega (arith, after (c .before .before .before .before .before .before .before .before .before .before) .1)
@@ -115,10 +98,15 @@ mark-requires : tie.Need-mark-requires Inv-loop μ-loop
 mark-requires c κs =
     let after-lead-on = c .before .before .before .before .before .before .before .before .before .before .before in
     let at-loop = after-lead-on .before .before .before .before .before in
-    let f = after after-lead-on in let l = at-loop .loop in (omega arith, omega arith, omega (arith, f .0, f .3), omega (arith, l .inv .2))
+    let p = at-loop .before .before .before .before .before .before .before .before .before .pre .0 in
+    let f = after after-lead-on in let l = at-loop .loop in (p .narrow, omega (arith, p .small), omega (arith, f .0, f .3, p .words), omega (arith, l .inv .2))
 
 mul-fresh-2 : tie.Need-mul-fresh-2 Inv-loop μ-loop
-mul-fresh-2 c = omega arith
+mul-fresh-2 c =
+    let earlier = c .before .before .before .before .before .before in
+    let after-lead-on = earlier .before .before .before .before .before .before .before .before in
+    let start = after-lead-on .before .before .before .before .before .before .before .before .before .before .before .before .before .before in
+    omega (arith, start .pre .0 .small, start .pre .1)
 
 -- record x has a mask still
 has-mask : (x n k m : ℕ) → x < n → n ≤ k → m ≡ k → x < m
@@ -129,8 +117,8 @@ slice-read-fresh-2 c =
     let earlier = c .before .before .before .before .before .before .before in
     let after-lead-on = earlier .before .before .before .before .before .before .before .before in
     let at-loop = after-lead-on .before .before .before .before .before in
-    let start = at-loop .before .before .before .before .before .before .before .before in
-    has-mask _ _ _ _ (start .pre .5) (start .pre .4) (after after-lead-on .1)
+    let start = at-loop .before .before .before .before .before .before .before .before .before in
+    has-mask _ _ _ _ (start .pre .1) (start .pre .0 .marks) (after after-lead-on .1)
 
 -- what is seen then
 long : (c : tie.After-mark Inv-loop μ-loop) → length (c .mark .last .1 .1 .1 .1 .1 .0) ≡ 16
@@ -146,18 +134,18 @@ fresh-requires-2 : tie.Need-fresh-requires-2 Inv-loop μ-loop
 fresh-requires-2 c κs =
     let after-mark = c .before .before .before .before in
     let after-lead-on = after-mark .before .before .before .before .before .before .before .before .before .before .before .before in
-    let start = after-lead-on .before .before .before .before .before .before .before .before .before .before .before .before .before in
+    let start = after-lead-on .before .before .before .before .before .before .before .before .before .before .before .before .before .before in
     let p = start .pre in
     let f = after after-lead-on in
-    (p .0, p .1, p .2, omega (arith, f .0, p .3), p .5, omega (arith, long after-mark), p .6)
+    (omega (arith, f .0, p .0), p .1, omega (arith, long after-mark), omega (arith, p .2))
 
 marked : (c : tie.After-mark Inv-loop μ-loop)
     → let after-lead-on = c .before .before .before .before .before .before .before .before .before .before .before .before in
     let at-loop = after-lead-on .before .before .before .before .before in
-    let start = at-loop .before .before .before .before .before .before .before .before in
+    let start = at-loop .before .before .before .before .before .before .before .before .before in
     let a = start .args in let l = at-loop .loop in
     (y : ℕ) → y < a .w * 64 → bitAt (c .mark .last .1 .1 .1 .1 .1 .0) y
-    ≡ max (put (l .z) 1 (bitAt (l .seen)) y) (pick (eqb (bitAt (a .closed .now) (l .z)) 1)
+    ≡ max (put (l .z) 1 (bitAt (l .seen)) y) (pick (eqb (bitAt (a .marks .now) (l .z)) 1)
     (firstRows (a .w) (after-lead-on .lead-on .last .0) (after-lead-on .lead-on .last .1 .0) (l .z) y) 0)
 unfolding firstRows
 marked c =
@@ -170,19 +158,20 @@ loop-less c =
     let after-mark = c .before .before .before .before .before in
     let after-lead-on = after-mark .before .before .before .before .before .before .before .before .before .before .before .before in
     let at-loop = after-lead-on .before .before .before .before .before in
-    let start = at-loop .before .before .before .before .before .before .before .before in
+    let start = at-loop .before .before .before .before .before .before .before .before .before in
     let a = start .args in
     let l = at-loop .loop in
     let zl : l .z < a .n = omega arith in
-    left-less (a .n) (a .w) (a .x) (l .z) (bitAt (a .closed .now)) (bitAt (l .seen)) (a .cells .now) (a .masks .now) (l .cells) (l .masks) _ _
-    (start .pre .2) (start .pre .5) zl (after-lead-on .lead-on .ensures) (l .inv .3 .found zl .0) (l .inv .4) _ (marked after-mark) (l .inv .3 .found zl .1)
+    left-less (a .n) (a .w) (a .x) (l .z) (bitAt (a .marks .now)) (bitAt (l .seen)) (a .cells .now) (a .masks .now) (l .cells) (l .masks) _ _
+    (start .pre .0 .wide) (start .pre .1) zl (after-lead-on .lead-on .ensures)
+    (l .inv .3 .found zl .0) (l .inv .4) _ (marked after-mark) (l .inv .3 .found zl .1)
 
 loop-again : tie.Need-loop-again Inv-loop μ-loop
 loop-again c =
     let after-mark = c .before .before .before .before .before in
     let after-lead-on = after-mark .before .before .before .before .before .before .before .before .before .before .before .before in
     let at-loop = after-lead-on .before .before .before .before .before in
-    let start = at-loop .before .before .before .before .before .before .before .before in
+    let start = at-loop .before .before .before .before .before .before .before .before .before in
     let a = start .args in
     let l = at-loop .loop in
     let zl : l .z < a .n = omega arith in
@@ -191,9 +180,9 @@ loop-again c =
       f .1,
       long after-mark,
       unfold firstRows in (c .fresh2 .ensures),
-      searching-more (a .n) (a .w) (a .x) (l .z) (bitAt (a .closed .now)) (bitAt (l .seen)) (a .cells .now) (a .masks .now) (l .cells) (l .masks) _ _
-          (start .pre .2) (start .pre .5) zl (after-lead-on .lead-on .ensures) (l .inv .3 .found zl .0) (l .inv .4) _ (marked after-mark)
-          (bit-lt (a .closed .now)) (bit-lt (l .seen)),
+      searching-more (a .n) (a .w) (a .x) (l .z) (bitAt (a .marks .now)) (bitAt (l .seen)) (a .cells .now) (a .masks .now) (l .cells) (l .masks) _ _
+          (start .pre .0 .wide) (start .pre .1) zl (after-lead-on .lead-on .ensures) (l .inv .3 .found zl .0) (l .inv .4) _ (marked after-mark)
+          (bit-lt (a .marks .now)) (bit-lt (l .seen)) (bit-lt _),
     )
 
 same-length-3 : tie.Need-same-length-3 Inv-loop μ-loop
@@ -204,11 +193,11 @@ same-length-4 c = c .before .loop .inv .1
 
 returns-2 : tie.Need-returns-2 Inv-loop μ-loop
 returns-2 c =
-    let start = c .before .before .before .before .before .before .before .before .before in
+    let start = c .before .before .before .before .before .before .before .before .before .before in
     let a = start .args in
     let l = c .before .loop in
     row-done (a .n) (a .w) (a .x) (l .z) _ (bitAt (l .seen)) (a .cells .now) (a .masks .now) (l .cells) (l .masks)
-    (start .pre .2) (omega arith) (l .inv .3) (l .inv .4)
+    (start .pre .0 .wide) (omega arith) (l .inv .3) (l .inv .4)
 
 pub close-row-spec : {M : Type 1} → statement M
 close-row-spec =
@@ -216,21 +205,18 @@ close-row-spec =
     (tie.spec
     Inv-loop
     μ-loop
-    mul-fresh
-    slice-read-fresh
-    slice-aggregate-fresh
-    fresh-requires
+    (λ c κs. search needs) (λ c. omega arith) (λ c. omega arith) (λ c. omega arith) (λ c κs. search needs)
     loop-holds
     bit-requires
     lead-on-requires
-    mul-leads-back
+    (λ c. omega arith)
     slice-read-leads-back
     mul-leads-back-2
     leads-back-requires
     same-length
     same-length-2
     returns
-    mul-mark
+    (λ c. omega arith)
     slice-read-mark
     slice-aggregate-mark
     mark-requires

@@ -8,21 +8,6 @@ use Rattle.grid.proofs.ClosureLaws.{clean-flat, masked-set, masked-clea
 use Rattle.grid.proofs.closing.close_rows.Statement.{statement}
 use Rattle.grid.proofs.closing.close_rows.Tie as tie
 
-slice-aggregate-mask-rows : tie.Need-slice-aggregate-mask-rows
-slice-aggregate-mask-rows c = search needs
-
-mask-rows-requires : tie.Need-mask-rows-requires
-mask-rows-requires c κs = search needs
-
-slice-aggregate-close-all : tie.Need-slice-aggregate-close-all
-slice-aggregate-close-all c = search needs
-
-close-all-requires : tie.Need-close-all-requires
-close-all-requires c κs = search needs
-
-same-length : tie.Need-same-length
-same-length c = search needs
-
 returns : tie.Need-returns
 returns c =
     let after-close-all = c .before .before .before in
@@ -40,9 +25,5 @@ pub close-rows-spec : {M : Type 1} → statement M
 close-rows-spec =
     tie.close
     (tie.spec
-    slice-aggregate-mask-rows
-    mask-rows-requires
-    slice-aggregate-close-all
-    close-all-requires
-    same-length
+    (λ c. search needs) (λ c κs. search needs) (λ c. search needs) (λ c κs. search needs) (λ c. search needs)
     returns)

@@ -10,12 +10,6 @@ use Rattle.grid.proofs.closing.deeper.Tie as tie
 returns : tie.Need-returns
 returns c = (omega arith, onward-same _ _ _ _ _)
 
-mul-unseen : tie.Need-mul-unseen
-mul-unseen c = search needs
-
-slice-read-unseen : tie.Need-slice-read-unseen
-slice-read-unseen c = search needs
-
 mul-unseen-2 : tie.Need-mul-unseen-2
 mul-unseen-2 c =
     let a = c .before .before .before .before .before .before .args in
@@ -26,35 +20,14 @@ unseen-requires c κs =
     let a = c .before .before .before .before .before .before .before .args in
     omega (arith, rows-apart (a .x) (a .n) (a .w) (omega arith))
 
-add-set-bit : tie.Need-add-set-bit
-add-set-bit c = search needs
-
-set-bit-requires : tie.Need-set-bit-requires
-set-bit-requires c κs = search needs
-
-same-length : tie.Need-same-length
-same-length c = search needs
-
-same-length-2 : tie.Need-same-length-2
-same-length-2 c = search needs
-
 returns-2 : tie.Need-returns-2
 returns-2 c =
     let a = c .before .before .before .before .before .before .before .before .before .before .before .before .before .args in
-    let z = c .before .before .before .before .before .unseen .result in
-    (omega arith, onward-beyond (a .n) (a .w) (1024 + z) (a .marks .now) _ (a .cells .now) (a .masks .now) (omega arith) (c .before .before .set-bit .ensures))
-
-close-once-requires : tie.Need-close-once-requires
-close-once-requires c κs = search needs
-
-same-length-3 : tie.Need-same-length-3
-same-length-3 c = search needs
-
-same-length-4 : tie.Need-same-length-4
-same-length-4 c = search needs
-
-same-length-5 : tie.Need-same-length-5
-same-length-5 c = search needs
+    let z = c .before .before .before .before .before .unseen .result in (
+      omega arith,
+      onward-beyond (a .n) (a .w) (1024 + z) (a .marks .now) _ (a .cells .now)
+          (a .masks .now) (omega arith) (omega arith) (c .before .before .set-bit .ensures),
+    )
 
 returns-3 : tie.Need-returns-3
 returns-3 c = (omega arith, c .before .before .before .before .before .before .close-once .ensures .0)
@@ -64,17 +37,10 @@ deeper-spec =
     tie.close
     (tie.spec
     returns
-    mul-unseen
-    slice-read-unseen
+    (λ c. search needs) (λ c. search needs)
     mul-unseen-2
     unseen-requires
-    add-set-bit
-    set-bit-requires
-    same-length
-    same-length-2
+    (λ c. search needs) (λ c κs. search needs) (λ c. search needs) (λ c. search needs)
     returns-2
-    close-once-requires
-    same-length-3
-    same-length-4
-    same-length-5
+    (λ c κs. search needs) (λ c. search needs) (λ c. search needs) (λ c. search needs)
     returns-3)

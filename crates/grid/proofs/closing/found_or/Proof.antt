@@ -13,9 +13,6 @@ inside c = lowest-some _ _ (omega arith) (c .before .if1 .taken) (c .lowest .ens
 inside-2 : (c : tie.After-lowest2) → c .lowest2 .result < 64
 inside-2 c = lowest-some _ _ (omega arith) (λ z. absurd (omega arith)) (c .lowest2 .ensures)
 
-mul-result : tie.Need-mul-result
-mul-result c = omega arith
-
 lowest-requires : tie.Need-lowest-requires
 lowest-requires c κs = tt
 
@@ -31,9 +28,6 @@ returns-2 c = inl (refl, inl (omega arith))
 returns-3 : tie.Need-returns-3
 returns-3 c = inl (refl, inr (omega arith))
 
-mul-result-2 : tie.Need-mul-result-2
-mul-result-2 c = omega arith
-
 lowest-requires-2 : tie.Need-lowest-requires-2
 lowest-requires-2 c κs = tt
 
@@ -47,13 +41,13 @@ pub found-or-spec : {M : Type 1} → statement M
 found-or-spec =
     tie.close
     (tie.spec
-    mul-result
+    (λ c. omega arith)
     lowest-requires
     add-result
     returns
     returns-2
     returns-3
-    mul-result-2
+    (λ c. omega arith)
     lowest-requires-2
     add-result-2
     returns-4)

@@ -6,7 +6,7 @@ use borrow.Author.Needs.{needs}
 use Rattle.grid.specs.Grid.{firstRows}
 use Rattle.grid.specs.Steps.{Merged}
 use Rattle.grid.proofs.RelationLaws.{rows-apart, unit-fits}
-use Rattle.grid.proofs.ClosureLaws.{merged-self, rows-other}
+use Rattle.grid.proofs.SearchLaws.{merged-self, rows-other}
 use Rattle.grid.proofs.closing.lead_on.Statement.{statement}
 use Rattle.grid.proofs.closing.lead_on.Tie as tie
 
@@ -16,12 +16,6 @@ returns c =
     subst (λ (k : ℕ). Merged (a .w) (a .x) (a .x * a .w) (firstRows (a .w) (a .cells .now) (a .masks .now) k)
     (a .cells .now) (a .masks .now) (a .cells .now) (a .masks .now))
     (c .if1 .taken) (merged-self (a .w) (a .x) (a .cells .now) (a .masks .now))
-
-mul-source : tie.Need-mul-source
-mul-source c = search needs
-
-slice-read-source : tie.Need-slice-read-source
-slice-read-source c = search needs
 
 mul-merge : tie.Need-mul-merge
 mul-merge c =
@@ -38,12 +32,6 @@ merge-requires c κs =
     let a = c .before .before .before .before .before .before .args in
     (omega arith, omega arith, omega (arith, rows-apart (a .x) (a .n) (a .w) (omega arith)), omega (arith, rows-apart (a .z) (a .n) (a .w) (omega arith)))
 
-same-length : tie.Need-same-length
-same-length c = search needs
-
-same-length-2 : tie.Need-same-length-2
-same-length-2 c = search needs
-
 returns-2 : tie.Need-returns-2
 returns-2 c =
     let after-merge = c .before .before .before .before in
@@ -57,11 +45,9 @@ lead-on-spec =
     tie.close
     (tie.spec
     returns
-    mul-source
-    slice-read-source
+    (λ c. search needs) (λ c. search needs)
     mul-merge
     mul-merge-2
     merge-requires
-    same-length
-    same-length-2
+    (λ c. search needs) (λ c. search needs)
     returns-2)

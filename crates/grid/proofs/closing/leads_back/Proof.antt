@@ -13,26 +13,8 @@ use Rattle.grid.proofs.closing.leads_back.Tie as tie
 returns : tie.Need-returns
 returns c = λ e. absurd (false≢true e)
 
-cast-if2 : tie.Need-cast-if2
-cast-if2 c = search needs
-
-shr-if2 : tie.Need-shr-if2
-shr-if2 c = search needs
-
 returns-2 : tie.Need-returns-2
 returns-2 c = λ e. absurd (false≢true e)
-
-add-result : tie.Need-add-result
-add-result c = search needs
-
-mul-result : tie.Need-mul-result
-mul-result c = search needs
-
-shared-slice-read-result : tie.Need-shared-slice-read-result
-shared-slice-read-result c = search needs
-
-shr-result : tie.Need-shr-result
-shr-result c = search needs
 
 returns-3 : tie.Need-returns-3
 unfolding digit
@@ -46,11 +28,7 @@ leads-back-spec =
     tie.close
     (tie.spec
     returns
-    cast-if2
-    shr-if2
+    (λ c. search needs) (λ c. search needs)
     returns-2
-    add-result
-    mul-result
-    shared-slice-read-result
-    shr-result
+    (λ c. search needs) (λ c. search needs) (λ c. search needs) (λ c. search needs)
     returns-3)

@@ -12,12 +12,6 @@ use Rattle.grid.specs.Grid.{rowOf}
 use Rattle.grid.proofs.closing.mark.Statement.{statement}
 use Rattle.grid.proofs.closing.mark.Tie as tie
 
-set-bit-requires : tie.Need-set-bit-requires
-set-bit-requires c κs = search needs
-
-same-length : tie.Need-same-length
-same-length c = search needs
-
 -- z alone is seen
 returns : tie.Need-returns
 returns c = λ y h.
@@ -29,12 +23,6 @@ mul-add-row : tie.Need-mul-add-row
 mul-add-row c =
     let start = c .before .before .before .before .before .before .before in
     let a = start .args in omega (arith, start .pre)
-
-add-row-requires : tie.Need-add-row-requires
-add-row-requires c κs = search needs
-
-same-length-2 : tie.Need-same-length-2
-same-length-2 c = search needs
 
 returns-2 : tie.Need-returns-2
 returns-2 c =
@@ -52,10 +40,8 @@ pub mark-spec : {M : Type 1} → statement M
 mark-spec =
     tie.close
     (tie.spec
-    set-bit-requires
-    same-length
+    (λ c κs. search needs) (λ c. search needs)
     returns
     mul-add-row
-    add-row-requires
-    same-length-2
+    (λ c κs. search needs) (λ c. search needs)
     returns-2)

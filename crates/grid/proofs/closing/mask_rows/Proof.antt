@@ -28,23 +28,11 @@ abbrev μ-loop : tie.MeasureT-loop
 loop-holds : tie.Need-loop-holds Inv-loop μ-loop
 loop-holds c = (omega arith, refl, λ u h. absurd (omega arith))
 
-squares-requires : tie.Need-squares-requires Inv-loop μ-loop
-squares-requires c κs = omega arith
-
 cast-masks : tie.Need-cast-masks Inv-loop μ-loop
 cast-masks c = omega (arith, c .squares .ensures .0)
 
-mul-masks : tie.Need-mul-masks Inv-loop μ-loop
-mul-masks c = omega arith
-
 slice-write-masks : tie.Need-slice-write-masks Inv-loop μ-loop
 slice-write-masks c = omega (arith, c .before .before .loop .inv .1)
-
-add-row : tie.Need-add-row Inv-loop μ-loop
-add-row c = omega arith
-
-loop-less : tie.Need-loop-less Inv-loop μ-loop
-loop-less c = omega arith
 
 loop-again : tie.Need-loop-again Inv-loop μ-loop
 loop-again c =
@@ -68,12 +56,11 @@ mask-rows-spec =
     Inv-loop
     μ-loop
     loop-holds
-    squares-requires
+    (λ c κs. omega arith)
     cast-masks
-    mul-masks
+    (λ c. omega arith)
     slice-write-masks
-    add-row
-    loop-less
+    (λ c. omega arith) (λ c. omega arith)
     loop-again
     same-length
     returns)

@@ -41,12 +41,6 @@ advance-requires c κs =
     let start = at-loop .before .before .before .before .before in
     let p = start .pre in let l = at-loop .loop .inv in omega (arith, p, l .0, l .1, l .2, l .3, l .4)
 
-add-step : tie.Need-add-step Inv-loop μ-loop
-add-step c = omega arith
-
-loop-less : tie.Need-loop-less Inv-loop μ-loop
-loop-less c = omega arith
-
 loop-again : tie.Need-loop-again Inv-loop μ-loop
 loop-again c =
     let l = c .before .before .before .before .before .before .before .before .before .before .before .before .before .before .before .loop in
@@ -87,8 +81,7 @@ search-on-spec =
     same-length-4
     returns
     advance-requires
-    add-step
-    loop-less
+    (λ c. omega arith) (λ c. omega arith)
     loop-again
     same-length-5
     same-length-6

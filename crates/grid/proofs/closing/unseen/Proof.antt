@@ -1,7 +1,9 @@
 -- `unseen` goes over the words in the mask, each read within its slice; that it ends is all that is claimed, and the bound. The measure is the words
 -- left. Assumes nothing.
-use Prim.Native.Nat.{_-_, _≤_, _<_}
+use Prim.Native.Nat.{_+_, _-_, _^_, _≤_, _<_}
 use native.Mathlib.Omega.{arith}
+use lib.Bits.{and-le-l}
+use lib.ListN.{getD}
 use Rattle.grid.proofs.ColumnLaws.{lowest-some}
 use Rattle.grid.proofs.closing.unseen.Statement.{statement}
 use Rattle.grid.proofs.closing.unseen.Tie as tie
@@ -13,37 +15,16 @@ abbrev μ-loop : tie.MeasureT-loop
 μ-loop cells mask n w b marks words c₀ c = w - c
 
 inside : (c : tie.After-lowest2 Inv-loop μ-loop) → c .lowest2 .result < 64
-inside c = lowest-some _ _ (omega arith) (c .before .if1 .taken) (c .lowest2 .ensures)
+inside c =
+    let in-loop = c .before .before .before .before in
+    let a = in-loop .before .before .before .before .before .args in
+    let k = in-loop .before .loop .c in
+    let f : getD (a .cells .now) (a .b + k) 0 < 2 ^ 64 = c .before .before .before .shared-slice-known3 .given (a .b + k) .fits in
+    lowest-some _ _ (omega (arith, f, and-le-l (getD (a .cells .now) (a .b + k) 0) ((2 ^ 64 - 1) - getD (a .marks .now) (16 + k) 0)))
+    (c .before .if1 .taken) (c .lowest2 .ensures)
 
 lowest-requires : tie.Need-lowest-requires Inv-loop μ-loop
 lowest-requires c κs = tt
-
-loop-holds : tie.Need-loop-holds Inv-loop μ-loop
-loop-holds c = omega arith
-
-add-cut : tie.Need-add-cut Inv-loop μ-loop
-add-cut c = omega arith
-
-mul-cut : tie.Need-mul-cut Inv-loop μ-loop
-mul-cut c = omega arith
-
-shared-slice-read-cut : tie.Need-shared-slice-read-cut Inv-loop μ-loop
-shared-slice-read-cut c = omega arith
-
-add-cut-2 : tie.Need-add-cut-2 Inv-loop μ-loop
-add-cut-2 c = omega arith
-
-mul-cut-2 : tie.Need-mul-cut-2 Inv-loop μ-loop
-mul-cut-2 c = omega arith
-
-shared-slice-read-cut-2 : tie.Need-shared-slice-read-cut-2 Inv-loop μ-loop
-shared-slice-read-cut-2 c = omega arith
-
-cut-requires : tie.Need-cut-requires Inv-loop μ-loop
-cut-requires c κs = omega arith
-
-mul-result : tie.Need-mul-result Inv-loop μ-loop
-mul-result c = omega arith
 
 lowest-requires-2 : tie.Need-lowest-requires-2 Inv-loop μ-loop
 lowest-requires-2 c κs = tt
@@ -54,17 +35,8 @@ add-result c = omega (arith, inside c)
 returns : tie.Need-returns Inv-loop μ-loop
 returns c = omega (arith, inside c)
 
-above-requires : tie.Need-above-requires Inv-loop μ-loop
-above-requires c κs = omega arith
-
 loop-less : tie.Need-loop-less Inv-loop μ-loop
 loop-less c = omega (arith, c .above .ensures .low)
-
-loop-again : tie.Need-loop-again Inv-loop μ-loop
-loop-again c = omega arith
-
-returns-2 : tie.Need-returns-2 Inv-loop μ-loop
-returns-2 c = omega arith
 
 pub unseen-spec : {M : Type 1} → statement M
 unseen-spec =
@@ -73,19 +45,11 @@ unseen-spec =
     Inv-loop
     μ-loop
     lowest-requires
-    loop-holds
-    add-cut
-    mul-cut
-    shared-slice-read-cut
-    add-cut-2
-    mul-cut-2
-    shared-slice-read-cut-2
-    cut-requires
-    mul-result
+    (λ c. omega arith) (λ c. omega arith) (λ c. omega arith) (λ c. omega arith) (λ c. omega arith) (λ c. omega arith) (λ c. omega arith)
+    (λ c. omega arith)
     lowest-requires-2
     add-result
     returns
-    above-requires
+    (λ c κs. omega arith)
     loop-less
-    loop-again
-    returns-2)
+    (λ c. omega arith) (λ c. omega arith))

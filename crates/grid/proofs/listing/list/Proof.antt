@@ -25,21 +25,6 @@ loop-holds c =
     let a = c .before .before .before .args in
     (omega arith, omega arith, refl, grown-none 0 _ (a .out .now) (rows-none (first (a .n) (a .w) (a .cells .now) (a .masks .now)) (a .n)))
 
-mul-list-row : tie.Need-mul-list-row Inv-loop μ-loop
-mul-list-row c = omega arith
-
-shared-slice-read-list-row : tie.Need-shared-slice-read-list-row Inv-loop μ-loop
-shared-slice-read-list-row c = omega arith
-
-list-row-requires : tie.Need-list-row-requires Inv-loop μ-loop
-list-row-requires c κs = omega arith
-
-add-x : tie.Need-add-x Inv-loop μ-loop
-add-x c = omega arith
-
-loop-less : tie.Need-loop-less Inv-loop μ-loop
-loop-less c = omega arith
-
 loop-again : tie.Need-loop-again Inv-loop μ-loop
 loop-again c =
     let a = c .before .before .before .before .before .before .before .before .before .before .args in
@@ -51,9 +36,6 @@ loop-again c =
       grown-more 0 (l .t) (R .result) _ _ _ (a .out .now) (l .out) _ (l .inv .2) (l .inv .3) (R .ensures .1)
           (rows-next (a .n) (a .w) (l .x) (a .cells .now) (a .masks .now) (omega arith)),
     )
-
-same-length : tie.Need-same-length Inv-loop μ-loop
-same-length c = search needs
 
 returns : tie.Need-returns Inv-loop μ-loop
 returns c =
@@ -70,11 +52,7 @@ list-spec =
     Inv-loop
     μ-loop
     loop-holds
-    mul-list-row
-    shared-slice-read-list-row
-    list-row-requires
-    add-x
-    loop-less
+    (λ c. omega arith) (λ c. omega arith) (λ c κs. omega arith) (λ c. omega arith) (λ c. omega arith)
     loop-again
-    same-length
+    (λ c. search needs)
     returns)

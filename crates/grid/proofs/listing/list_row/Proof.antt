@@ -56,23 +56,8 @@ mul-cut c = let a = c .before .before .before .before .before .args in omega (ar
 shared-slice-read-cut : tie.Need-shared-slice-read-cut Inv-loop μ-loop
 shared-slice-read-cut c = let a = c .before .before .before .before .before .before .args in omega (arith, rows-apart (a .x) (a .n) (a .w) (omega arith))
 
-cut-requires : tie.Need-cut-requires Inv-loop μ-loop
-cut-requires c κs = omega arith
-
-mul-list-word : tie.Need-mul-list-word Inv-loop μ-loop
-mul-list-word c = omega arith
-
-mul-list-word-2 : tie.Need-mul-list-word-2 Inv-loop μ-loop
-mul-list-word-2 c = omega arith
-
-add-list-word : tie.Need-add-list-word Inv-loop μ-loop
-add-list-word c = omega arith
-
 list-word-requires : tie.Need-list-word-requires Inv-loop μ-loop
 list-word-requires c κs = let i = c .before .before .before .before .loop .inv .1 in (omega arith, omega (arith, i))
-
-above-requires : tie.Need-above-requires Inv-loop μ-loop
-above-requires c κs = omega arith
 
 loop-less : tie.Need-loop-less Inv-loop μ-loop
 loop-less c = omega (arith, c .above .ensures .low)
@@ -102,9 +87,6 @@ loop-again c =
           (after-cut .cut .result) (l .inv .0 (omega arith)) (after-cut .cut .ensures) (a .x * 1024)),
     )
 
-same-length : tie.Need-same-length Inv-loop μ-loop
-same-length c = search needs
-
 returns : tie.Need-returns Inv-loop μ-loop
 returns c =
     let a = c .before .before .before .before .before .args in
@@ -126,13 +108,10 @@ list-row-spec =
     add-cut
     mul-cut
     shared-slice-read-cut
-    cut-requires
-    mul-list-word
-    mul-list-word-2
-    add-list-word
+    (λ c κs. omega arith) (λ c. omega arith) (λ c. omega arith) (λ c. omega arith)
     list-word-requires
-    above-requires
+    (λ c κs. omega arith)
     loop-less
     loop-again
-    same-length
+    (λ c. search needs)
     returns)

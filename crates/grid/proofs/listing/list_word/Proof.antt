@@ -98,9 +98,6 @@ loop-again c =
           (ap (columns (digit (a .word)) (a .at)) (sym g) ∙ f ∙ ap (λ (x : ℕ). columns (digit (a .word)) (a .at) m ++ (x ∷ [])) p),
     )
 
-same-length : tie.Need-same-length Inv-loop μ-loop
-same-length c = search needs
-
 returns : tie.Need-returns Inv-loop μ-loop
 returns c =
     let a = c .before .before .before .args in
@@ -125,5 +122,5 @@ list-word-spec =
     shr-rest
     loop-less
     loop-again
-    same-length
+    (λ c. search needs)
     returns)

@@ -9,7 +9,8 @@ use lib.ListN.{length, getD, take}
 use Rattle.k2.specs.PairSets.{Cells, union}
 use Rattle.rows.specs.Rows.{crossedWords}
 use Rattle.grid.specs.Grid.{first, within}
-use Rattle.grid.proofs.PairLaws.{union-empty, put-more, crossed-start, crossed-next, crossed-all}
+use Rattle.rows.specs.RowLaws.{crossed-all}
+use Rattle.grid.proofs.PairLaws.{union-empty, put-more, crossed-start, crossed-next}
 use Rattle.grid.proofs.putting.put_letters.Statement.{statement}
 use Rattle.grid.proofs.putting.put_letters.Tie as tie
 
@@ -25,21 +26,6 @@ loop-holds : tie.Need-loop-holds Inv-loop μ-loop
 loop-holds c =
     let a = c .before .before .before .args in
     (omega arith, refl, refl, union-empty (a .n) _ _ (crossed-start (a .forward) (a .against)))
-
-mul-put-word : tie.Need-mul-put-word Inv-loop μ-loop
-mul-put-word c = omega arith
-
-shared-slice-read-put-word : tie.Need-shared-slice-read-put-word Inv-loop μ-loop
-shared-slice-read-put-word c = omega arith
-
-put-word-requires : tie.Need-put-word-requires Inv-loop μ-loop
-put-word-requires c κs = omega arith
-
-add-i : tie.Need-add-i Inv-loop μ-loop
-add-i c = omega arith
-
-loop-less : tie.Need-loop-less Inv-loop μ-loop
-loop-less c = omega arith
 
 loop-again : tie.Need-loop-again Inv-loop μ-loop
 loop-again c =
@@ -59,12 +45,6 @@ loop-again c =
           ∙ put-more (a .n) A _ _ ∙ ap (λ (s : Cells). union A (within (a .n) s)) (crossed-next ws (l .i) (a .forward) (a .against) il),
     )
 
-same-length : tie.Need-same-length Inv-loop μ-loop
-same-length c = search needs
-
-same-length-2 : tie.Need-same-length-2 Inv-loop μ-loop
-same-length-2 c = search needs
-
 returns : tie.Need-returns Inv-loop μ-loop
 returns c =
     let a = c .before .before .before .before .before .args in
@@ -80,12 +60,7 @@ put-letters-spec =
     Inv-loop
     μ-loop
     loop-holds
-    mul-put-word
-    shared-slice-read-put-word
-    put-word-requires
-    add-i
-    loop-less
+    (λ c. omega arith) (λ c. omega arith) (λ c κs. omega arith) (λ c. omega arith) (λ c. omega arith)
     loop-again
-    same-length
-    same-length-2
+    (λ c. search needs) (λ c. search needs)
     returns)

@@ -20,19 +20,10 @@ mul-put c =
     let a = c .before .before .before .before .before .before .args in
     omega (arith, unit-fits (a .n) (a .w) (omega arith) (omega arith), rows-apart (a .x) (a .n) (a .w) (omega arith))
 
-shl-put : tie.Need-shl-put
-shl-put c = search needs
-
 put-requires : tie.Need-put-requires
 put-requires c κs =
     let a = c .before .before .before .before .before .before .args in
     (omega arith, omega arith, omega (arith, rows-apart (a .x) (a .n) (a .w) (omega arith)))
-
-same-length : tie.Need-same-length
-same-length c = search needs
-
-same-length-2 : tie.Need-same-length-2
-same-length-2 c = search needs
 
 returns-3 : tie.Need-returns-3
 returns-3 c =
@@ -41,4 +32,4 @@ returns-3 c =
     (rw (one-shl (a .y % 64) (omega arith)) at (c .before .before .before .before .put .ensures (a .w) (omega arith)))
 
 pub put-pair-spec : {M : Type 1} → statement M
-put-pair-spec = tie.close (tie.spec returns returns-2 mul-put shl-put put-requires same-length same-length-2 returns-3)
+put-pair-spec = tie.close (tie.spec returns returns-2 mul-put (λ c. search needs) put-requires (λ c. search needs) (λ c. search needs) returns-3)

@@ -4,9 +4,11 @@ use mathlib.Core.Logic.{⊎-elim}
 use Prim.Native.Nat.{ℕ, _%_, _/_}
 use native.Mathlib.Omega.{arith}
 use borrow.Author.Needs.{needs}
+use lib.Dec.{eqb}
 use lib.ListN.{length}
+use Rattle.k2.specs.Bits.{digit}
 use Rattle.k2.specs.PairSets.{Cells, union, transpose}
-use Rattle.rows.specs.Rows.{linkPair}
+use Rattle.links.specs.Links.{linkPair}
 use Rattle.rows.specs.RowLaws.{transpose-none, union-right}
 use Rattle.grid.specs.Grid.{first, within}
 use Rattle.grid.specs.Steps.{onePair}
@@ -14,33 +16,23 @@ use Rattle.grid.proofs.PairLaws.{letter, letter-in, letter-out, one-tur
 use Rattle.grid.proofs.putting.put_word.Statement.{statement}
 use Rattle.grid.proofs.putting.put_word.Tie as tie
 
-cast-p : tie.Need-cast-p
-cast-p c = search needs
-
-has-label-requires : tie.Need-has-label-requires
-has-label-requires c κs = search needs
-
-put-pair-requires : tie.Need-put-pair-requires
-put-pair-requires c κs = search needs
-
-has-label-requires-2 : tie.Need-has-label-requires-2
-has-label-requires-2 c κs = search needs
-
 -- the link is in forward
-forward : (c : tie.Joined1) → let a = c .before .before .before .before .args in
+forward : (c : tie.Joined1) → let a = c .before .before .before .before .before .before .args in
     (length (c .if1 .cells) ≡ length (a .cells .now)) × (length (c .if1 .masks) ≡ length (a .masks .now))
     × (first (a .n) (a .w) (c .if1 .cells) (c .if1 .masks) ≡ union
     (first (a .n) (a .w) (a .cells .now) (a .masks .now)) (within (a .n) (letter (a .forward) (a .word))))
 unfolding linkPair
 forward c =
-    let a = c .before .before .before .before .args in
+    let a = c .before .before .before .before .before .before .args in
     let A : Cells = first (a .n) (a .w) (a .cells .now) (a .masks .now) in
-    let r = c .before .has-label .ensures in
+    let p = c .before .before .pair-of in
+    let r = c .before .has-label .ensures ∙ ap (λ (k : ℕ). eqb (digit (a .forward) k) 1) (c .before .before .before .label-of .ensures) in
     ⊎-elim
     (λ v. (
       rw (v .8) (v .3 .kept .0),
       rw (v .9) (v .3 .kept .1 .0),
-      rw (v .8, v .9) (v .3 .ensures ∙ ap (λ (s : Cells). union A (within (a .n) s)) (sym (letter-in (a .forward) (a .word) (sym r ∙ v .0 .taken)))),
+      rw (v .8, v .9) (v .3 .ensures ∙ ap (λ (k : ℕ). union A (within (a .n) (onePair (k / 1024) (k % 1024)))) (p .ensures)
+          ∙ ap (λ (s : Cells). union A (within (a .n) s)) (sym (letter-in (a .forward) (a .word) (sym r ∙ v .0 .taken)))),
     ))
     (λ v. (
       rw (v .1) refl,
@@ -66,15 +58,18 @@ unfolding linkPair
 returns c =
     let after-put-pair2 = c .before .before .before .before in
     let then2 = after-put-pair2 .before .before .before in
-    let start = then2 .before .before .before .before .before .before in
-    let a = start .args in
+    let joined1 = then2 .before .before in
+    let after-pair-of = joined1 .before .before in
+    let a = after-pair-of .before .before .before .before .args in
     let A : Cells = first (a .n) (a .w) (a .cells .now) (a .masks .now) in
-    let r = then2 .before .has-label2 .ensures in
+    let r = then2 .before .has-label2 .ensures ∙ ap (λ (k : ℕ). eqb (digit (a .against) k) 1) (after-pair-of .before .label-of .ensures) in
     let p : ℕ = a .word % 1048576 in
     let e : onePair (p % 1024) (p / 1024) ≡ transpose (letter (a .against) (a .word))
     = sym (ap transpose (letter-in (a .against) (a .word) (sym r ∙ then2 .if2 .taken)) ∙ one-turned (p / 1024) (p % 1024)) in
     after-put-pair2 .put-pair2 .ensures
-    ∙ ap (λ (s : Cells). union s (within (a .n) (onePair (p % 1024) (p / 1024)))) (forward (then2 .before .before) .2)
+    ∙ ap (λ (k : ℕ). union (first (a .n) (a .w) (joined1 .if1 .cells) (joined1 .if1 .masks)) (within (a .n) (onePair (k % 1024) (k / 1024))))
+    (after-pair-of .pair-of .ensures)
+    ∙ ap (λ (s : Cells). union s (within (a .n) (onePair (p % 1024) (p / 1024)))) (forward joined1 .2)
     ∙ put-more (a .n) A (letter (a .forward) (a .word)) (onePair (p % 1024) (p / 1024))
     ∙ ap (λ (s : Cells). union A (within (a .n) (union (letter (a .forward) (a .word)) s))) e
     ∙ ap (λ (s : Cells). union A (within (a .n) s)) (sym (crossed-one (a .word) (a .forward) (a .against)))
@@ -87,21 +82,20 @@ same-length-4 c = forward (c .before .before) .1
 
 returns-2 : tie.Need-returns-2
 returns-2 c =
-    let a = c .before .before .before .before .before .before .args in
+    let joined1 = c .before .before in
+    let after-label-of = joined1 .before .before .before in
+    let a = after-label-of .before .before .before .args in
     let A : Cells = first (a .n) (a .w) (a .cells .now) (a .masks .now) in
-    let r = c .before .has-label2 .ensures in
+    let r = c .before .has-label2 .ensures ∙ ap (λ (k : ℕ). eqb (digit (a .against) k) 1) (after-label-of .label-of .ensures) in
     let e : transpose (letter (a .against) (a .word)) ≡ _ = ap transpose (letter-out (a .against) (a .word) (sym r ∙ c .if2 .left)) ∙ transpose-none in
-    forward (c .before .before) .2 ∙ ap (λ (s : Cells). union A (within (a .n) s))
+    forward joined1 .2 ∙ ap (λ (s : Cells). union A (within (a .n) s))
     (sym (crossed-one (a .word) (a .forward) (a .against) ∙ ap (union (letter (a .forward) (a .word))) e ∙ union-right (letter (a .forward) (a .word))))
 
 pub put-word-spec : {M : Type 1} → statement M
 put-word-spec =
     tie.close
     (tie.spec
-    cast-p
-    has-label-requires
-    put-pair-requires
-    has-label-requires-2
+    (λ c κs. search needs) (λ c κs. search needs) (λ c. search needs) (λ c κs. search needs) (λ c κs. search needs) (λ c κs. search needs)
     put-pair-requires-2
     same-length
     same-length-2

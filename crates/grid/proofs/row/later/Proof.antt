@@ -16,26 +16,11 @@ Inv-loop cells mask b w c words k₀ k = (c < k) × (k < 64 → digit mask k ≡
 abbrev μ-loop : tie.MeasureT-loop
 μ-loop cells mask b w c words k₀ k = w - k
 
-above-requires : tie.Need-above-requires Inv-loop μ-loop
-above-requires c κs = omega arith
-
 loop-holds : tie.Need-loop-holds Inv-loop μ-loop
 loop-holds c =
     let a = c .before .before .args in
     let L = c .above .ensures in
     (omega (arith, L .low), L .hit, gap-words (a .cells .now) (a .b) (a .mask) (a .c) (c .above .result) L)
-
-add-word : tie.Need-add-word Inv-loop μ-loop
-add-word c = omega arith
-
-mul-word : tie.Need-mul-word Inv-loop μ-loop
-mul-word c = omega arith
-
-shared-slice-read-word : tie.Need-shared-slice-read-word Inv-loop μ-loop
-shared-slice-read-word c = omega arith
-
-mul-result : tie.Need-mul-result Inv-loop μ-loop
-mul-result c = omega arith
 
 lowest-requires : tie.Need-lowest-requires Inv-loop μ-loop
 lowest-requires c κs = tt
@@ -56,9 +41,6 @@ returns c =
     found-whole (a .cells .now) (a .b) (a .mask) (a .c * 64 + 64) (a .w) (l .k) (c .lowest .result)
     (omega (arith, l .inv .0)) (omega arith) (l .inv .1 (omega arith)) f (l .inv .2) (c .lowest .ensures) h
 
-above-requires-2 : tie.Need-above-requires-2 Inv-loop μ-loop
-above-requires-2 c κs = omega arith
-
 loop-less : tie.Need-loop-less Inv-loop μ-loop
 loop-less c = omega (arith, c .above2 .ensures .low)
 
@@ -75,9 +57,6 @@ loop-again c =
           (gap-words (a .cells .now) (a .b) (a .mask) (l .k) (c .above2 .result) L)),
     )
 
-mul-result-2 : tie.Need-mul-result-2 Inv-loop μ-loop
-mul-result-2 c = omega arith
-
 returns-2 : tie.Need-returns-2 Inv-loop μ-loop
 returns-2 c =
     let a = c .before .before .before .before .args in
@@ -90,17 +69,14 @@ later-spec =
     (tie.spec
     Inv-loop
     μ-loop
-    above-requires
+    (λ c κs. omega arith)
     loop-holds
-    add-word
-    mul-word
-    shared-slice-read-word
-    mul-result
+    (λ c. omega arith) (λ c. omega arith) (λ c. omega arith) (λ c. omega arith)
     lowest-requires
     add-result
     returns
-    above-requires-2
+    (λ c κs. omega arith)
     loop-less
     loop-again
-    mul-result-2
+    (λ c. omega arith)
     returns-2)

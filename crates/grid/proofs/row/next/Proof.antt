@@ -11,34 +11,10 @@ use native.Mathlib.Omega.{arith}
 use Rattle.grid.proofs.row.next.Statement.{statement}
 use Rattle.grid.proofs.row.next.Tie as tie
 
-mul-result : tie.Need-mul-result
-mul-result c = search needs
-
 returns : tie.Need-returns
 returns c =
     let a = c .before .before .args in
     (omega arith, lowest-end (a .cells .now) (a .b) (a .mask) (a .y) (a .w) (a .y) (omega arith) (omega arith) (λ j h l. absurd (omega arith)))
-
-cast-if2 : tie.Need-cast-if2
-cast-if2 c = search needs
-
-shr-if2 : tie.Need-shr-if2
-shr-if2 c = search needs
-
-add-rest : tie.Need-add-rest
-add-rest c = search needs
-
-mul-rest : tie.Need-mul-rest
-mul-rest c = search needs
-
-shared-slice-read-rest : tie.Need-shared-slice-read-rest
-shared-slice-read-rest c = search needs
-
-shr-rest : tie.Need-shr-rest
-shr-rest c = search needs
-
-lowest-requires : tie.Need-lowest-requires
-lowest-requires c κs = search needs
 
 add-result : tie.Need-add-result
 add-result c =
@@ -56,9 +32,6 @@ returns-2 c =
     found (a .cells .now) (a .b) (a .mask) (a .y) (a .w) (a .y / 64) (a .y) (c .lowest .result)
     (omega arith) refl (omega arith) (omega arith) f (λ j p q. absurd (omega arith)) (c .lowest .ensures) h
 
-later-requires : tie.Need-later-requires
-later-requires c κs = search needs
-
 returns-3 : tie.Need-returns-3
 unfolding digit
 returns-3 c =
@@ -74,16 +47,10 @@ pub next-spec : {M : Type 1} → statement M
 next-spec =
     tie.close
     (tie.spec
-    mul-result
+    (λ c. search needs)
     returns
-    cast-if2
-    shr-if2
-    add-rest
-    mul-rest
-    shared-slice-read-rest
-    shr-rest
-    lowest-requires
+    (λ c. search needs) (λ c. search needs) (λ c. search needs) (λ c. search needs) (λ c. search needs) (λ c. search needs) (λ c κs. search needs)
     add-result
     returns-2
-    later-requires
+    (λ c κs. search needs)
     returns-3)

@@ -20,7 +20,7 @@ abbrev μ-loop : tie.MeasureT-loop
 μ-loop cells masks n w rows₀ t₀ x₀ rows t x = n - x
 
 clear-requires : tie.Need-clear-requires Inv-loop μ-loop
-clear-requires c κs = c .before .before .before .before .pre .5
+clear-requires c κs = c .before .before .before .before .pre .1
 
 loop-holds : tie.Need-loop-holds Inv-loop μ-loop
 loop-holds c =
@@ -28,23 +28,14 @@ loop-holds c =
     let a = start .args in
     let F : Cells = first (a .n) (a .w) (a .cells .now) (a .masks .now) in
     let k = c .before .before .clear in
-    (omega arith, omega arith, sym (ap length (rows-none F (a .n))), k .kept .0 ∙ start .pre .5, laid-none F _ (k .ensures))
-
-mul-spread-row : tie.Need-mul-spread-row Inv-loop μ-loop
-mul-spread-row c = omega arith
-
-shared-slice-read-spread-row : tie.Need-shared-slice-read-spread-row Inv-loop μ-loop
-shared-slice-read-spread-row c = omega arith
+    (omega arith, omega arith, sym (ap length (rows-none F (a .n))), k .kept .0 ∙ start .pre .1, laid-none F _ (k .ensures))
 
 spread-row-requires : tie.Need-spread-row-requires Inv-loop μ-loop
 spread-row-requires c κs =
     let start = c .before .before .before .before .before .before .before .before .before .before .before in
     let a = start .args in
     let l = c .before .before .before .loop in (
-      start .pre .0,
-      start .pre .1,
-      start .pre .2,
-      start .pre .3,
+      omega (arith, start .pre .0),
       c .before .before .loop-test .taken,
       l .inv .3,
       laid-empty (l .x) (first (a .n) (a .w) (a .cells .now) (a .masks .now)) (l .rows) (l .inv .4),
@@ -52,12 +43,6 @@ spread-row-requires c κs =
 
 add-t : tie.Need-add-t Inv-loop μ-loop
 add-t c = omega (arith, c .before .before .before .before .before .before .loop .inv .1, c .before .before .spread-row .ensures .0)
-
-add-x : tie.Need-add-x Inv-loop μ-loop
-add-x c = omega arith
-
-loop-less : tie.Need-loop-less Inv-loop μ-loop
-loop-less c = omega arith
 
 loop-again : tie.Need-loop-again Inv-loop μ-loop
 loop-again c =
@@ -71,9 +56,6 @@ loop-again c =
       R .kept .1 .1 .1 .1 .1 .0 ∙ l .inv .3,
       laid-more (a .n) (a .w) (a .cells .now) (a .masks .now) (l .x) (l .rows) _ (omega arith) (l .inv .4) (R .ensures .2),
     )
-
-same-length : tie.Need-same-length Inv-loop μ-loop
-same-length c = search needs
 
 returns : tie.Need-returns Inv-loop μ-loop
 returns c =
@@ -92,12 +74,10 @@ spread-spec =
     μ-loop
     clear-requires
     loop-holds
-    mul-spread-row
-    shared-slice-read-spread-row
+    (λ c. omega arith) (λ c. omega arith)
     spread-row-requires
     add-t
-    add-x
-    loop-less
+    (λ c. omega arith) (λ c. omega arith)
     loop-again
-    same-length
+    (λ c. search needs)
     returns)

@@ -27,9 +27,6 @@ mul-b c =
     let a = c .before .before .args in
     omega (arith, unit-fits (a .n) (a .w) (omega arith) (omega arith), rows-apart (a .x) (a .n) (a .w) (omega arith))
 
-mul-to : tie.Need-mul-to Inv-loop μ-loop
-mul-to c = omega arith
-
 lowest-requires : tie.Need-lowest-requires Inv-loop μ-loop
 lowest-requires c κs = tt
 
@@ -43,7 +40,7 @@ loop-holds c =
       omega arith,
       count-none (a .n) (a .w) (a .x * a .w) (a .mask) (a .x) (a .cells .now) k (a .x * 1024) (L .gap),
       refl,
-      spread-none (a .n) (a .w) (a .x * a .w) (a .mask) (a .x) (a .cells .now) k (a .rows .now) (start .pre .6) (L .gap),
+      spread-none (a .n) (a .w) (a .x * a .w) (a .mask) (a .x) (a .cells .now) k (a .rows .now) (start .pre .3) (L .gap),
     )
 
 add-cut : tie.Need-add-cut Inv-loop μ-loop
@@ -57,12 +54,6 @@ mul-cut c = let a = c .before .before .before .before .before .args in omega (ar
 shared-slice-read-cut : tie.Need-shared-slice-read-cut Inv-loop μ-loop
 shared-slice-read-cut c = let a = c .before .before .before .before .before .before .args in omega (arith, rows-apart (a .x) (a .n) (a .w) (omega arith))
 
-cut-requires : tie.Need-cut-requires Inv-loop μ-loop
-cut-requires c κs = omega arith
-
-add-rows : tie.Need-add-rows Inv-loop μ-loop
-add-rows c = omega arith
-
 mul-rows : tie.Need-mul-rows Inv-loop μ-loop
 mul-rows c = omega (arith, c .before .before .before .loop .inv .3)
 
@@ -74,9 +65,6 @@ count-requires c κs = tt
 
 add-s : tie.Need-add-s Inv-loop μ-loop
 add-s c = omega (arith, c .before .before .before .before .loop .inv .1, c .count .ensures .0)
-
-above-requires : tie.Need-above-requires Inv-loop μ-loop
-above-requires c κs = omega arith
 
 loop-less : tie.Need-loop-less Inv-loop μ-loop
 loop-less c = omega (arith, c .above .ensures .low)
@@ -100,9 +88,6 @@ loop-again c =
           (omega (arith, l .inv .3)) (omega arith) (omega arith) (l .inv .0 (omega arith)) (W .ensures) (L .low) (L .gap) (l .inv .4),
     )
 
-same-length : tie.Need-same-length Inv-loop μ-loop
-same-length c = search needs
-
 returns : tie.Need-returns Inv-loop μ-loop
 returns c =
     let a = c .before .before .before .before .before .args in
@@ -119,20 +104,19 @@ spread-row-spec =
     Inv-loop
     μ-loop
     mul-b
-    mul-to
+    (λ c. omega arith)
     lowest-requires
     loop-holds
     add-cut
     mul-cut
     shared-slice-read-cut
-    cut-requires
-    add-rows
+    (λ c κs. omega arith) (λ c. omega arith)
     mul-rows
     slice-write-rows
     count-requires
     add-s
-    above-requires
+    (λ c κs. omega arith)
     loop-less
     loop-again
-    same-length
+    (λ c. search needs)
     returns)

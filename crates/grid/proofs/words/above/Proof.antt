@@ -6,12 +6,6 @@ use Rattle.grid.proofs.ScanLaws.{above-is}
 use Rattle.grid.proofs.words.above.Statement.{statement}
 use Rattle.grid.proofs.words.above.Tie as tie
 
-shr-rest : tie.Need-shr-rest
-shr-rest c = omega arith
-
-add-result : tie.Need-add-result
-add-result c = omega arith
-
 cast-result : tie.Need-cast-result
 cast-result c = omega (arith, trailing-le 64 (c .args .word / 2 ^ c .args .k / 2))
 
@@ -22,4 +16,4 @@ returns : tie.Need-returns
 returns c = above-is (c .args .word) (c .args .k) (omega arith)
 
 pub above-spec : {M : Type 1} → statement M
-above-spec = tie.close (tie.spec shr-rest add-result cast-result add-result-2 returns)
+above-spec = tie.close (tie.spec (λ c. omega arith) (λ c. omega arith) cast-result add-result-2 returns)

@@ -14,23 +14,11 @@ use Rattle.k2.specs.WordLaws.{digit-mod, digit-past}
 use Rattle.grid.proofs.words.cut.Statement.{statement}
 use Rattle.grid.proofs.words.cut.Tie as tie
 
-mul-at : tie.Need-mul-at
-mul-at c = search needs
-
 returns : tie.Need-returns
 returns c j h = let a = c .before .args in digit-none j ∙ sym (rw (le-ltb (a .c * 64 + j) (a .n) (omega arith)))
 
-add-if2 : tie.Need-add-if2
-add-if2 c = search needs
-
 returns-2 : tie.Need-returns-2
 returns-2 c j h = let a = c .before .before .args in sym (rw (lt-ltb (a .c * 64 + j) (a .n) (omega arith)))
-
-sub-result : tie.Need-sub-result
-sub-result c = search needs
-
-shl-result : tie.Need-shl-result
-shl-result c = search needs
 
 rem-result : tie.Need-rem-result
 rem-result c = let a = c .before .before .args in rw (one-shl (a .n - a .c * 64) (omega arith)) (omega (arith, pow-pos (a .n - a .c * 64)))
@@ -48,4 +36,4 @@ returns-3 c j h =
     rw (one-shl (a .n - a .c * 64) (omega arith)) (cut-at (a .word) (a .n - a .c * 64) (a .c * 64) (a .n) j (omega arith))
 
 pub cut-spec : {M : Type 1} → statement M
-cut-spec = tie.close (tie.spec mul-at returns add-if2 returns-2 sub-result shl-result rem-result returns-3)
+cut-spec = tie.close (tie.spec (λ c. search needs) returns (λ c. search needs) returns-2 (λ c. search needs) (λ c. search needs) rem-result returns-3)

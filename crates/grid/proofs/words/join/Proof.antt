@@ -6,12 +6,6 @@ use native.Mathlib.Omega.{arith}
 use Rattle.grid.proofs.words.join.Statement.{statement}
 use Rattle.grid.proofs.words.join.Tie as tie
 
-cast-if1 : tie.Need-cast-if1
-cast-if1 c = search needs
-
-shr-if1 : tie.Need-shr-if1
-shr-if1 c = search needs
-
 returns : tie.Need-returns
 unfolding digit
 returns c =
@@ -25,4 +19,4 @@ returns-2 c =
     join-new (a .mask) (a .c) (a .old) (a .v) (omega arith)
 
 pub join-spec : {M : Type 1} → statement M
-join-spec = tie.close (tie.spec cast-if1 shr-if1 returns returns-2)
+join-spec = tie.close (tie.spec (λ c. search needs) (λ c. search needs) returns returns-2)

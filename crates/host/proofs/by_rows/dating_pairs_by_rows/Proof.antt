@@ -1,55 +1,43 @@
--- `host::by_rows::dating_pairs_by_rows` carries the promise of the question over to words. Assumes nothing.
+-- `host::by_rows::dating_pairs_by_rows` asks of the marks and links that stand among the words. Assumes nothing.
 use mathlib.Core.Path.{refl}
+use borrow.Author.Tests.{not-true, not-false}
 use Rattle.book.specs.Causes.{number}
-use Rattle.host.proofs.CarryLaws.{load-none, load-some, asked-foreign, asked}
+use Rattle.host.proofs.CarryLaws.{asked-foreign, asked}
+use Rattle.host.proofs.ReadLaws.{read-few, read-kept}
 use borrow.Author.Needs.{needs}
 use Rattle.host.proofs.by_rows.dating_pairs_by_rows.Statement.{statement}
 use Rattle.host.proofs.by_rows.dating_pairs_by_rows.Tie as tie
 
-load-requires : tie.Need-load-requires
-load-requires c κs = search needs
-
-number-of-requires : tie.Need-number-of-requires
-number-of-requires c κs = search needs
-
-told-refusal-requires : tie.Need-told-refusal-requires
-told-refusal-requires c κs = search needs
-
 returns : tie.Need-returns
 unfolding number
 returns c =
-    asked-foreign (load-none (c .before .before .before .load .ensures) (c .before .before .number-of .ensures) (c .before .if1 .taken))
+    asked-foreign (λ r k. c .before .before .is-register .ensures .none (not-true _ (c .before .if1 .taken)) (r, k))
     (c .told-refusal .ensures) refl
 
-pairs-by-rows-requires : tie.Need-pairs-by-rows-requires
-pairs-by-rows-requires c κs = search needs
-
-told-requires : tie.Need-told-requires
-told-requires c κs = search needs
-
-same-length : tie.Need-same-length
-same-length c = search needs
-
-same-length-2 : tie.Need-same-length-2
-same-length-2 c = search needs
+pairs-over-requires : tie.Need-pairs-over-requires
+pairs-over-requires c κs =
+    let after-links-in = c .before .before in
+    let else1 = after-links-in .before .before in
+    let one = else1 .before .is-register .ensures .sure (not-false _ (else1 .if1 .left)) in
+    read-few (one .1) (after-links-in .before .marks-in .ensures) (after-links-in .links-in .ensures)
 
 returns-2 : tie.Need-returns-2
 returns-2 c =
-    let after-pairs-by-rows = c .before .before .before .before .before in
-    let else1 = after-pairs-by-rows .before .before .before in
-    asked (load-some (else1 .before .before .load .ensures) (else1 .before .number-of .ensures) (else1 .if1 .left))
-    (after-pairs-by-rows .pairs-by-rows .result) (after-pairs-by-rows .pairs-by-rows .ensures) (c .told .ensures)
+    let after-pairs-over = c .before .before .before .before .before in
+    let after-links-in = after-pairs-over .before .before .before in
+    let else1 = after-links-in .before .before in
+    let one = else1 .before .is-register .ensures .sure (not-false _ (else1 .if1 .left)) in
+    let read = read-kept (one .1) (after-links-in .before .marks-in .ensures) (after-links-in .links-in .ensures) in
+    asked (one .1) (after-pairs-over .pairs-over .result) (after-pairs-over .pairs-over .ensures (one .0) read) (c .told .ensures)
 
 pub dating-pairs-by-rows-spec : {M : Type 1} → statement M
 dating-pairs-by-rows-spec =
     tie.close
     (tie.spec
-    load-requires
-    number-of-requires
-    told-refusal-requires
+    (λ c κs. search needs) (λ c κs. search needs)
     returns
-    pairs-by-rows-requires
-    told-requires
-    same-length
-    same-length-2
+    (λ c κs. search needs) (λ c κs. search needs)
+    pairs-over-requires
+    (λ c κs. search needs)
+    (λ c. search needs) (λ c. search needs)
     returns-2)

@@ -5,30 +5,9 @@ use borrow.Author.Needs.{needs}
 use Rattle.host.proofs.closing.dating_close_up.Statement.{statement}
 use Rattle.host.proofs.closing.dating_close_up.Tie as tie
 
-load-requires : tie.Need-load-requires
-load-requires c κs = search needs
-
-number-of-requires : tie.Need-number-of-requires
-number-of-requires c κs = search needs
-
-same-length : tie.Need-same-length
-same-length c = search needs
-
 returns : tie.Need-returns
 unfolding number
 returns c = close-foreign _ _ (load-none (c .before .before .load .ensures) (c .before .number-of .ensures) (c .if1 .taken))
-
-close-up-requires : tie.Need-close-up-requires
-close-up-requires c κs = search needs
-
-keep-requires : tie.Need-keep-requires
-keep-requires c κs = search needs
-
-same-length-2 : tie.Need-same-length-2
-same-length-2 c = search needs
-
-same-length-3 : tie.Need-same-length-3
-same-length-3 c = search needs
 
 returns-2 : tie.Need-returns-2
 returns-2 c =
@@ -41,12 +20,7 @@ pub dating-close-up-spec : {M : Type 1} → statement M
 dating-close-up-spec =
     tie.close
     (tie.spec
-    load-requires
-    number-of-requires
-    same-length
+    (λ c κs. search needs) (λ c κs. search needs) (λ c. search needs)
     returns
-    close-up-requires
-    keep-requires
-    same-length-2
-    same-length-3
+    (λ c κs. search needs) (λ c κs. search needs) (λ c. search needs) (λ c. search needs)
     returns-2)

@@ -7,20 +7,8 @@ use borrow.Author.Needs.{needs}
 use Rattle.host.proofs.edits.dating_fresh.Statement.{statement}
 use Rattle.host.proofs.edits.dating_fresh.Tie as tie
 
-open-requires : tie.Need-open-requires
-open-requires c κs = search needs
-
-number-of-requires : tie.Need-number-of-requires
-number-of-requires c κs = search needs
-
 returns : tie.Need-returns
 returns c = fresh-refused (c .before .before .open .ensures) _ (c .before .number-of .ensures) (c .if1 .taken)
-
-store-requires : tie.Need-store-requires
-store-requires c κs = search needs
-
-same-length : tie.Need-same-length
-same-length c = search needs
 
 returns-2 : tie.Need-returns-2
 unfolding number
@@ -29,9 +17,6 @@ returns-2 c =
     let else1 = after-store .before .before .before in
     fresh-short (else1 .before .before .open .ensures) _ (sym (else1 .before .number-of .ensures) ∙ else1 .if1 .left)
     _ _ (after-store .store .ensures) (not-true _ (c .if2 .taken))
-
-same-length-2 : tie.Need-same-length-2
-same-length-2 c = search needs
 
 returns-3 : tie.Need-returns-3
 returns-3 c =
@@ -44,11 +29,9 @@ pub dating-fresh-spec : {M : Type 1} → statement M
 dating-fresh-spec =
     tie.close
     (tie.spec
-    open-requires
-    number-of-requires
+    (λ c κs. search needs) (λ c κs. search needs)
     returns
-    store-requires
-    same-length
+    (λ c κs. search needs) (λ c. search needs)
     returns-2
-    same-length-2
+    (λ c. search needs)
     returns-3)

@@ -4,12 +4,6 @@ use borrow.Author.Needs.{needs}
 use Rattle.host.proofs.edits.dating_withdraw.Statement.{statement}
 use Rattle.host.proofs.edits.dating_withdraw.Tie as tie
 
-edit-requires : tie.Need-edit-requires
-edit-requires c κs = search needs
-
-same-length : tie.Need-same-length
-same-length c = search needs
-
 returns : tie.Need-returns
 unfolding callOf
 returns c = c .before .before .edit .ensures
@@ -18,6 +12,5 @@ pub dating-withdraw-spec : {M : Type 1} → statement M
 dating-withdraw-spec =
     tie.close
     (tie.spec
-    edit-requires
-    same-length
+    (λ c κs. search needs) (λ c. search needs)
     returns)

@@ -9,27 +9,12 @@ use borrow.Author.Needs.{needs}
 use Rattle.host.proofs.edits.keep.Statement.{statement}
 use Rattle.host.proofs.edits.keep.Tie as tie
 
-enum-known-answer : tie.Need-enum-known-answer
-enum-known-answer c = search needs
-
-enum-told : tie.Need-enum-told
-enum-told c = search needs
-
-store-requires : tie.Need-store-requires
-store-requires c κs = search needs
-
-same-length : tie.Need-same-length
-same-length c = search needs
-
 returns : tie.Need-returns
 unfolding number
 returns c = let q = c .before .before .before .store .ensures .refused (not-true _ (c .if1 .taken)) in lost refl (q .0) (q .1)
 
 returns-2 : tie.Need-returns-2
 returns-2 c = let g = c .before .answer .given .1 in refused (λ d. refused-done (sym g ∙ d)) (sym (ap answerNumber g)) refl
-
-same-length-2 : tie.Need-same-length-2
-same-length-2 c = search needs
 
 returns-3 : tie.Need-returns-3
 returns-3 c =
@@ -40,11 +25,8 @@ pub keep-spec : {M : Type 1} → statement M
 keep-spec =
     tie.close
     (tie.spec
-    enum-known-answer
-    enum-told
-    store-requires
-    same-length
+    (λ c. search needs) (λ c. search needs) (λ c κs. search needs) (λ c. search needs)
     returns
     returns-2
-    same-length-2
+    (λ c. search needs)
     returns-3)

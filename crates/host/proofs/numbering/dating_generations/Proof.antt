@@ -7,32 +7,14 @@ use borrow.Author.Needs.{needs}
 use Rattle.host.proofs.numbering.dating_generations.Statement.{statement}
 use Rattle.host.proofs.numbering.dating_generations.Tie as tie
 
-load-requires : tie.Need-load-requires
-load-requires c κs = search needs
-
-number-of-requires : tie.Need-number-of-requires
-number-of-requires c κs = search needs
-
-told-refusal-requires : tie.Need-told-refusal-requires
-told-refusal-requires c κs = search needs
-
 returns : tie.Need-returns
 unfolding number
 returns c =
     asked-foreign (load-none (c .before .before .before .load .ensures) (c .before .before .number-of .ensures) (c .before .if1 .taken))
     (c .told-refusal .ensures) refl
 
-generations-requires : tie.Need-generations-requires
-generations-requires c κs = search needs
-
 told-generations-requires : tie.Need-told-generations-requires
 told-generations-requires c κs = omega (arith, c .before .before .before .before .generations .ensures .contained .fits)
-
-same-length : tie.Need-same-length
-same-length c = search needs
-
-same-length-2 : tie.Need-same-length-2
-same-length-2 c = search needs
 
 returns-2 : tie.Need-returns-2
 returns-2 c =
@@ -45,12 +27,9 @@ pub dating-generations-spec : {M : Type 1} → statement M
 dating-generations-spec =
     tie.close
     (tie.spec
-    load-requires
-    number-of-requires
-    told-refusal-requires
+    (λ c κs. search needs) (λ c κs. search needs) (λ c κs. search needs)
     returns
-    generations-requires
+    (λ c κs. search needs)
     told-generations-requires
-    same-length
-    same-length-2
+    (λ c. search needs) (λ c. search needs)
     returns-2)

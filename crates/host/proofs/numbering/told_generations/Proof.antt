@@ -10,26 +10,11 @@ use borrow.Author.Needs.{needs}
 use Rattle.host.proofs.numbering.told_generations.Statement.{statement}
 use Rattle.host.proofs.numbering.told_generations.Tie as tie
 
-enum-known-answer : tie.Need-enum-known-answer
-enum-known-answer c = search needs
-
-enum-known-answer-2 : tie.Need-enum-known-answer-2
-enum-known-answer-2 c = search needs
-
 add-result : tie.Need-add-result
 unfolding counted generationsCounted
 add-result c =
     let z = subst (λ (a : GenerationsAnswer). counted (generationsCounted a) ≤ 2 ^ 62) (c .before .answer2 .given .1) (c .before .before .before .pre) in
     omega arith
-
-enum-known-answer-3 : tie.Need-enum-known-answer-3
-enum-known-answer-3 c = search needs
-
-told-refusal-requires : tie.Need-told-refusal-requires
-told-refusal-requires c κs = search needs
-
-returns : tie.Need-returns
-returns c = search needs
 
 returns-2 : tie.Need-returns-2
 returns-2 c = sym (ap toldGenerations (c .before .answer2 .given .1))
@@ -41,11 +26,8 @@ pub told-generations-spec : {M : Type 1} → statement M
 told-generations-spec =
     tie.close
     (tie.spec
-    enum-known-answer
-    enum-known-answer-2
+    (λ c. search needs) (λ c. search needs)
     add-result
-    enum-known-answer-3
-    told-refusal-requires
-    returns
+    (λ c. search needs) (λ c κs. search needs) (λ c. search needs)
     returns-2
     returns-3)

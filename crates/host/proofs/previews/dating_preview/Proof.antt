@@ -7,27 +7,6 @@ use borrow.Author.Needs.{needs}
 use Rattle.host.proofs.previews.dating_preview.Statement.{statement}
 use Rattle.host.proofs.previews.dating_preview.Tie as tie
 
-entry-of-requires : tie.Need-entry-of-requires
-entry-of-requires c κs = search needs
-
-enum-known-entry : tie.Need-enum-known-entry
-enum-known-entry c = search needs
-
-preview-requires : tie.Need-preview-requires
-preview-requires c κs = search needs
-
-enum-told : tie.Need-enum-told
-enum-told c = search needs
-
-told-refusal-requires : tie.Need-told-refusal-requires
-told-refusal-requires c κs = search needs
-
-same-length : tie.Need-same-length
-same-length c = search needs
-
-same-length-2 : tie.Need-same-length-2
-same-length-2 c = search needs
-
 returns : tie.Need-returns
 returns c =
     let after-preview = c .before .before .before .before in
@@ -42,12 +21,7 @@ pub dating-preview-spec : {M : Type 1} → statement M
 dating-preview-spec =
     tie.close
     (tie.spec
-    entry-of-requires
-    enum-known-entry
-    preview-requires
-    enum-told
-    told-refusal-requires
-    same-length
-    same-length-2
+    (λ c κs. search needs) (λ c. search needs) (λ c κs. search needs) (λ c. search needs) (λ c κs. search needs) (λ c. search needs)
+    (λ c. search needs)
     returns
     returns-2)

@@ -1,55 +1,43 @@
--- `host::questions::dating_chain` carries the promise of the question over to words. Assumes nothing.
+-- `host::questions::dating_chain` asks of the marks and links that stand among the words. Assumes nothing.
 use mathlib.Core.Path.{refl}
+use borrow.Author.Tests.{not-true, not-false}
 use Rattle.book.specs.Causes.{number}
-use Rattle.host.proofs.CarryLaws.{load-none, load-some, asked-foreign, asked}
+use Rattle.host.proofs.CarryLaws.{asked-foreign, asked}
+use Rattle.host.proofs.ReadLaws.{read-few, read-kept}
 use borrow.Author.Needs.{needs}
 use Rattle.host.proofs.questions.dating_chain.Statement.{statement}
 use Rattle.host.proofs.questions.dating_chain.Tie as tie
 
-load-requires : tie.Need-load-requires
-load-requires c κs = search needs
-
-number-of-requires : tie.Need-number-of-requires
-number-of-requires c κs = search needs
-
-told-refusal-requires : tie.Need-told-refusal-requires
-told-refusal-requires c κs = search needs
-
 returns : tie.Need-returns
 unfolding number
 returns c =
-    asked-foreign (load-none (c .before .before .before .load .ensures) (c .before .before .number-of .ensures) (c .before .if1 .taken))
+    asked-foreign (λ r k. c .before .before .is-register .ensures .none (not-true _ (c .before .if1 .taken)) (r, k))
     (c .told-refusal .ensures) refl
 
-chain-requires : tie.Need-chain-requires
-chain-requires c κs = search needs
-
-told-chain-requires : tie.Need-told-chain-requires
-told-chain-requires c κs = search needs
-
-same-length : tie.Need-same-length
-same-length c = search needs
-
-same-length-2 : tie.Need-same-length-2
-same-length-2 c = search needs
+chain-over-requires : tie.Need-chain-over-requires
+chain-over-requires c κs =
+    let after-links-in = c .before .before in
+    let else1 = after-links-in .before .before in
+    let one = else1 .before .is-register .ensures .sure (not-false _ (else1 .if1 .left)) in
+    read-few (one .1) (after-links-in .before .marks-in .ensures) (after-links-in .links-in .ensures)
 
 returns-2 : tie.Need-returns-2
 returns-2 c =
-    let after-chain = c .before .before .before .before .before in
-    let else1 = after-chain .before .before .before in
-    asked (load-some (else1 .before .before .load .ensures) (else1 .before .number-of .ensures) (else1 .if1 .left))
-    (after-chain .chain .result) (after-chain .chain .ensures) (c .told-chain .ensures)
+    let after-chain-over = c .before .before .before .before .before in
+    let after-links-in = after-chain-over .before .before .before in
+    let else1 = after-links-in .before .before in
+    let one = else1 .before .is-register .ensures .sure (not-false _ (else1 .if1 .left)) in
+    let read = read-kept (one .1) (after-links-in .before .marks-in .ensures) (after-links-in .links-in .ensures) in
+    asked (one .1) (after-chain-over .chain-over .result) (after-chain-over .chain-over .ensures (one .0) read) (c .told-chain .ensures)
 
 pub dating-chain-spec : {M : Type 1} → statement M
 dating-chain-spec =
     tie.close
     (tie.spec
-    load-requires
-    number-of-requires
-    told-refusal-requires
+    (λ c κs. search needs) (λ c κs. search needs)
     returns
-    chain-requires
-    told-chain-requires
-    same-length
-    same-length-2
+    (λ c κs. search needs) (λ c κs. search needs)
+    chain-over-requires
+    (λ c κs. search needs)
+    (λ c. search needs) (λ c. search needs)
     returns-2)

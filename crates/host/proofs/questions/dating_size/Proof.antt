@@ -3,14 +3,8 @@ use borrow.Author.Needs.{needs}
 use Rattle.host.proofs.questions.dating_size.Statement.{statement}
 use Rattle.host.proofs.questions.dating_size.Tie as tie
 
-size-in-requires : tie.Need-size-in-requires
-size-in-requires c κs = search needs
-
-cast-result : tie.Need-cast-result
-cast-result c = search needs
-
 returns : tie.Need-returns
 returns c = c .size-in .ensures .1
 
 pub dating-size-spec : {M : Type 1} → statement M
-dating-size-spec = tie.close (tie.spec size-in-requires cast-result returns)
+dating-size-spec = tie.close (tie.spec (λ c κs. search needs) (λ c. search needs) returns)

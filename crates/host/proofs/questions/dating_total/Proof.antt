@@ -4,14 +4,8 @@ use borrow.Author.Needs.{needs}
 use Rattle.host.proofs.questions.dating_total.Statement.{statement}
 use Rattle.host.proofs.questions.dating_total.Tie as tie
 
-total-in-requires : tie.Need-total-in-requires
-total-in-requires c κs = search needs
-
-told-requires : tie.Need-told-requires
-told-requires c κs = search needs
-
 returns : tie.Need-returns
 returns c = told-word (λ _ _ p. p) (c .before .total-in .ensures) (c .told .ensures)
 
 pub dating-total-spec : {M : Type 1} → statement M
-dating-total-spec = tie.close (tie.spec total-in-requires told-requires returns)
+dating-total-spec = tie.close (tie.spec (λ c κs. search needs) (λ c κs. search needs) returns)

@@ -6,19 +6,10 @@ use borrow.Author.Needs.{needs}
 use Rattle.host.proofs.reading.dating_marks.Statement.{statement}
 use Rattle.host.proofs.reading.dating_marks.Tie as tie
 
-marks-in-requires : tie.Need-marks-in-requires
-marks-in-requires c κs = search needs
-
-told-words-requires : tie.Need-told-words-requires
-told-words-requires c κs = search needs
-
-same-length : tie.Need-same-length
-same-length c = search needs
-
 returns : tie.Need-returns
 returns c =
     asked-list (λ r. take (r .n) (r .marks)) (c .before .before .before .before .marks-in .ensures) (c .before .before .told-words .ensures)
     (λ r k a h. (r .n, r .marks, keeps-sized k, keeps-mark-list k, h))
 
 pub dating-marks-spec : {M : Type 1} → statement M
-dating-marks-spec = tie.close (tie.spec marks-in-requires told-words-requires same-length returns)
+dating-marks-spec = tie.close (tie.spec (λ c κs. search needs) (λ c κs. search needs) (λ c. search needs) returns)

@@ -5,19 +5,10 @@ use borrow.Author.Needs.{needs}
 use Rattle.host.proofs.reading.dating_totals.Statement.{statement}
 use Rattle.host.proofs.reading.dating_totals.Tie as tie
 
-totals-in-requires : tie.Need-totals-in-requires
-totals-in-requires c κs = search needs
-
-told-words-requires : tie.Need-told-words-requires
-told-words-requires c κs = search needs
-
-same-length : tie.Need-same-length
-same-length c = search needs
-
 returns : tie.Need-returns
 returns c =
     asked-list (λ r. r .totals) (c .before .before .before .before .totals-in .ensures) (c .before .before .told-words .ensures)
     (λ r k a h. (r .totals, keeps-total-list k, h))
 
 pub dating-totals-spec : {M : Type 1} → statement M
-dating-totals-spec = tie.close (tie.spec totals-in-requires told-words-requires same-length returns)
+dating-totals-spec = tie.close (tie.spec (λ c κs. search needs) (λ c κs. search needs) (λ c. search needs) returns)

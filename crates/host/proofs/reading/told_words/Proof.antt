@@ -12,20 +12,11 @@ use borrow.Author.Needs.{needs}
 use Rattle.host.proofs.reading.told_words.Statement.{statement}
 use Rattle.host.proofs.reading.told_words.Tie as tie
 
-is-register-requires : tie.Need-is-register-requires
-is-register-requires c κs = search needs
-
-told-refusal-requires : tie.Need-told-refusal-requires
-told-refusal-requires c κs = search needs
-
 returns : tie.Need-returns
 unfolding number
 returns c =
     asked-foreign (λ r k. c .before .before .is-register .ensures .none (not-true _ (c .before .if1 .taken)) (r, k))
     (c .told-refusal .ensures) refl
-
-fitting-requires : tie.Need-fitting-requires
-fitting-requires c κs = search needs
 
 -- the words taken are as many as were found to fit
 long : (c : tie.After-fitting)
@@ -34,12 +25,6 @@ long c = length-take-le _ _ (c .fitting .ensures .0)
 
 slice-aggregate-copy : tie.Need-slice-aggregate-copy
 slice-aggregate-copy c = sym (long (c .before))
-
-copy-requires : tie.Need-copy-requires
-copy-requires c κs = search needs
-
-same-length : tie.Need-same-length
-same-length c = search needs
 
 returns-2 : tie.Need-returns-2
 returns-2 c =
@@ -56,11 +41,9 @@ pub told-words-spec : {M : Type 1} → statement M
 told-words-spec =
     tie.close
     (tie.spec
-    is-register-requires
-    told-refusal-requires
+    (λ c κs. search needs) (λ c κs. search needs)
     returns
-    fitting-requires
+    (λ c κs. search needs)
     slice-aggregate-copy
-    copy-requires
-    same-length
+    (λ c κs. search needs) (λ c. search needs)
     returns-2)

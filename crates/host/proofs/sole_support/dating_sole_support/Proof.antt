@@ -6,32 +6,11 @@ use borrow.Author.Needs.{needs}
 use Rattle.host.proofs.sole_support.dating_sole_support.Statement.{statement}
 use Rattle.host.proofs.sole_support.dating_sole_support.Tie as tie
 
-load-requires : tie.Need-load-requires
-load-requires c κs = search needs
-
-number-of-requires : tie.Need-number-of-requires
-number-of-requires c κs = search needs
-
-told-refusal-requires : tie.Need-told-refusal-requires
-told-refusal-requires c κs = search needs
-
 returns : tie.Need-returns
 unfolding number
 returns c =
     asked-foreign (load-none (c .before .before .before .load .ensures) (c .before .before .number-of .ensures) (c .before .if1 .taken))
     (c .told-refusal .ensures) refl
-
-sole-support-requires : tie.Need-sole-support-requires
-sole-support-requires c κs = search needs
-
-told-requires : tie.Need-told-requires
-told-requires c κs = search needs
-
-same-length : tie.Need-same-length
-same-length c = search needs
-
-same-length-2 : tie.Need-same-length-2
-same-length-2 c = search needs
 
 returns-2 : tie.Need-returns-2
 returns-2 c =
@@ -44,12 +23,7 @@ pub dating-sole-support-spec : {M : Type 1} → statement M
 dating-sole-support-spec =
     tie.close
     (tie.spec
-    load-requires
-    number-of-requires
-    told-refusal-requires
+    (λ c κs. search needs) (λ c κs. search needs) (λ c κs. search needs)
     returns
-    sole-support-requires
-    told-requires
-    same-length
-    same-length-2
+    (λ c κs. search needs) (λ c κs. search needs) (λ c. search needs) (λ c. search needs)
     returns-2)

@@ -5,24 +5,6 @@ use borrow.Author.Needs.{needs}
 use Rattle.host.proofs.told.told_chain.Statement.{statement}
 use Rattle.host.proofs.told.told_chain.Tie as tie
 
-enum-known-answer : tie.Need-enum-known-answer
-enum-known-answer c = search needs
-
-enum-told : tie.Need-enum-told
-enum-told c = search needs
-
-enum-known-answer-2 : tie.Need-enum-known-answer-2
-enum-known-answer-2 c = search needs
-
-told-refusal-requires : tie.Need-told-refusal-requires
-told-refusal-requires c κs = search needs
-
-returns : tie.Need-returns
-returns c = search needs
-
-returns-2 : tie.Need-returns-2
-returns-2 c = search needs
-
 returns-3 : tie.Need-returns-3
 returns-3 c = c .told-refusal .ensures ∙ ap toldChain (sym (c .before .before .answer2 .given .1))
 
@@ -30,10 +12,5 @@ pub told-chain-spec : {M : Type 1} → statement M
 told-chain-spec =
     tie.close
     (tie.spec
-    enum-known-answer
-    enum-told
-    enum-known-answer-2
-    told-refusal-requires
-    returns
-    returns-2
+    (λ c. search needs) (λ c. search needs) (λ c. search needs) (λ c κs. search needs) (λ c. search needs) (λ c. search needs)
     returns-3)

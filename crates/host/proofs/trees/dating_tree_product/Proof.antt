@@ -3,24 +3,6 @@ use borrow.Author.Needs.{needs}
 use Rattle.host.proofs.trees.dating_tree_product.Statement.{statement}
 use Rattle.host.proofs.trees.dating_tree_product.Tie as tie
 
-sense-of-requires : tie.Need-sense-of-requires
-sense-of-requires c κs = search needs
-
-sense-of-requires-2 : tie.Need-sense-of-requires-2
-sense-of-requires-2 c κs = search needs
-
-product-requires : tie.Need-product-requires
-product-requires c κs = search needs
-
-told-requires : tie.Need-told-requires
-told-requires c κs = search needs
-
-same-length : tie.Need-same-length
-same-length c = search needs
-
-same-length-2 : tie.Need-same-length-2
-same-length-2 c = search needs
-
 returns : tie.Need-returns
 returns c =
     let after-tree-product = c .before .before .before .before .before in
@@ -33,10 +15,5 @@ pub dating-tree-product-spec : {M : Type 1} → statement M
 dating-tree-product-spec =
     tie.close
     (tie.spec
-    sense-of-requires
-    sense-of-requires-2
-    product-requires
-    told-requires
-    same-length
-    same-length-2
+    (λ c κs. search needs) (λ c κs. search needs) (λ c κs. search needs) (λ c κs. search needs) (λ c. search needs) (λ c. search needs)
     returns)

@@ -8,29 +8,11 @@ use borrow.Author.Needs.{needs}
 use Rattle.lines.proofs.requests.alone.Statement.{statement}
 use Rattle.lines.proofs.requests.alone.Tie as tie
 
-broken-requires : tie.Need-broken-requires
-broken-requires c κs = search needs
-
-same-length : tie.Need-same-length
-same-length c = search needs
-
 returns : tie.Need-returns
 returns c =
     let t = c .before .before .before .before in
     let a = t .before .before .before .args in
     wrote-as (ap sent (sym (alone-more (a .kind) (now (a .s)) (t .if1 .taken)))) (c .before .before .broken .ensures)
-
-slice-aggregate-put-frame : tie.Need-slice-aggregate-put-frame
-slice-aggregate-put-frame c = search needs
-
-slice-aggregate-put-frame-2 : tie.Need-slice-aggregate-put-frame-2
-slice-aggregate-put-frame-2 c = search needs
-
-put-frame-requires : tie.Need-put-frame-requires
-put-frame-requires c κs = search needs
-
-same-length-2 : tie.Need-same-length-2
-same-length-2 c = search needs
 
 returns-2 : tie.Need-returns-2
 unfolding sent
@@ -43,11 +25,7 @@ pub alone-spec : {M : Type 1} → statement M
 alone-spec =
     tie.close
     (tie.spec
-    broken-requires
-    same-length
+    (λ c κs. search needs) (λ c. search needs)
     returns
-    slice-aggregate-put-frame
-    slice-aggregate-put-frame-2
-    put-frame-requires
-    same-length-2
+    (λ c. search needs) (λ c. search needs) (λ c κs. search needs) (λ c. search needs)
     returns-2)

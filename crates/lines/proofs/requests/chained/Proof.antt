@@ -34,38 +34,11 @@ as-read c =
       expression = c .text .ensures;
     }
 
-number-requires : tie.Need-number-requires
-number-requires c κs = search needs
-
-rest-requires : tie.Need-rest-requires
-rest-requires c κs = search needs
-
-number-requires-2 : tie.Need-number-requires-2
-number-requires-2 c κs = search needs
-
-rest-requires-2 : tie.Need-rest-requires-2
-rest-requires-2 c κs = search needs
-
-text-requires : tie.Need-text-requires
-text-requires c κs = search needs
-
-broken-requires : tie.Need-broken-requires
-broken-requires c κs = search needs
-
-same-length : tie.Need-same-length
-same-length c = search needs
-
 returns : tie.Need-returns
 returns c =
     let test = c .before .before .before .before in
     let v = test .before in
     wrote-as (ap sent (sym (chained-not-from (as-read v) (start v .args .kind) (test .if1 .taken)))) (c .before .before .broken .ensures)
-
-broken-requires-2 : tie.Need-broken-requires-2
-broken-requires-2 c κs = search needs
-
-same-length-2 : tie.Need-same-length-2
-same-length-2 c = search needs
 
 returns-2 : tie.Need-returns-2
 returns-2 c =
@@ -74,19 +47,10 @@ returns-2 c =
     wrote-as (ap sent (sym (chained-not-to (as-read v) (start v .args .kind) (test .before .if1 .left) (test .if2 .taken))))
     (c .before .before .broken2 .ensures)
 
-cast-put-ends : tie.Need-cast-put-ends
-cast-put-ends c = search needs
-
-cast-put-ends-2 : tie.Need-cast-put-ends-2
-cast-put-ends-2 c = search needs
-
 put-ends-requires : tie.Need-put-ends-requires
 put-ends-requires c κs =
     let v = c .before .before .before in
     (omega (arith, ap length (v .text .ensures), length-text (now (v .before .rest2 .result))), search needs)
-
-same-length-3 : tie.Need-same-length-3
-same-length-3 c = search needs
 
 returns-3 : tie.Need-returns-3
 unfolding sent
@@ -99,19 +63,12 @@ pub chained-spec : {M : Type 1} → statement M
 chained-spec =
     tie.close
     (tie.spec
-    number-requires
-    rest-requires
-    number-requires-2
-    rest-requires-2
-    text-requires
-    broken-requires
-    same-length
+    (λ c κs. search needs) (λ c κs. search needs) (λ c κs. search needs) (λ c κs. search needs) (λ c κs. search needs) (λ c κs. search needs)
+    (λ c. search needs)
     returns
-    broken-requires-2
-    same-length-2
+    (λ c κs. search needs) (λ c. search needs)
     returns-2
-    cast-put-ends
-    cast-put-ends-2
+    (λ c. search needs) (λ c. search needs)
     put-ends-requires
-    same-length-3
+    (λ c. search needs)
     returns-3)

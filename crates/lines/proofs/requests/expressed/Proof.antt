@@ -10,18 +10,9 @@ use borrow.Author.Needs.{needs}
 use Rattle.lines.proofs.requests.expressed.Statement.{statement}
 use Rattle.lines.proofs.requests.expressed.Tie as tie
 
-slice-aggregate-put-frame : tie.Need-slice-aggregate-put-frame
-slice-aggregate-put-frame c = search needs
-
-text-requires : tie.Need-text-requires
-text-requires c κs = search needs
-
 put-frame-requires : tie.Need-put-frame-requires
 put-frame-requires c κs =
     (omega (arith, ap length (c .before .text .ensures), length-text (now (c .before .before .before .before .before .args .s))), search needs)
-
-same-length : tie.Need-same-length
-same-length c = search needs
 
 returns : tie.Need-returns
 unfolding sent argued
@@ -30,4 +21,4 @@ returns c = rw (← c .before .before .before .before .text .ensures) (c .before
 pub expressed-spec : {M : Type 1} → statement M
 expressed-spec =
     tie.close
-    (tie.spec slice-aggregate-put-frame text-requires put-frame-requires same-length returns)
+    (tie.spec (λ c. search needs) (λ c κs. search needs) put-frame-requires (λ c. search needs) returns)

@@ -12,20 +12,11 @@ use borrow.Author.Needs.{needs}
 use Rattle.lines.proofs.requests.frame.Statement.{statement}
 use Rattle.lines.proofs.requests.frame.Tie as tie
 
-broken-requires : tie.Need-broken-requires
-broken-requires c κs = search needs
-
-same-length : tie.Need-same-length
-same-length c = search needs
-
 returns : tie.Need-returns
 returns c =
     let then1 = c .before .before .before .before in
     let start = then1 .before .before .before in
     wrote-as (ap sent (sym (typed-long (now (start .args .line)) (then1 .if1 .taken)))) (c .before .before .broken .ensures)
-
-skip-requires : tie.Need-skip-requires
-skip-requires c κs = search needs
 
 returns-2 : tie.Need-returns-2
 unfolding sent
@@ -38,9 +29,6 @@ returns-2 c =
     let from-word : typed line ≡ begun t = typed-short line (e .if1 .left) ∙ ap begun (sym (k .skip .ensures)) in
     wrote-as (ap sent (sym (from-word ∙ begun-none t (c .if2 .taken)))) (wrote-none 0 (now (a .out)) (omega arith))
 
-shared-slice-read-if3 : tie.Need-shared-slice-read-if3
-shared-slice-read-if3 c = search needs
-
 returns-3 : tie.Need-returns-3
 unfolding sent
 returns-3 c =
@@ -51,21 +39,6 @@ returns-3 c =
     let t = now (k .skip .result) in
     let from-word : typed line ≡ begun t = typed-short line (e .if1 .left) ∙ ap begun (sym (k .skip .ensures)) in
     wrote-as (ap sent (sym (from-word ∙ begun-comment t (c .if3 .taken)))) (wrote-none 0 (now (a .out)) (omega arith))
-
-word-requires : tie.Need-word-requires
-word-requires c κs = search needs
-
-rest-requires : tie.Need-rest-requires
-rest-requires c κs = search needs
-
-kind-of-requires : tie.Need-kind-of-requires
-kind-of-requires c κs = search needs
-
-request-requires : tie.Need-request-requires
-request-requires c κs = search needs
-
-same-length-2 : tie.Need-same-length-2
-same-length-2 c = search needs
 
 returns-4 : tie.Need-returns-4
 unfolding requested
@@ -91,16 +64,11 @@ pub frame-spec : {M : Type 1} → statement M
 frame-spec =
     tie.close
     (tie.spec
-    broken-requires
-    same-length
+    (λ c κs. search needs) (λ c. search needs)
     returns
-    skip-requires
+    (λ c κs. search needs)
     returns-2
-    shared-slice-read-if3
+    (λ c. search needs)
     returns-3
-    word-requires
-    kind-of-requires
-    rest-requires
-    request-requires
-    same-length-2
+    (λ c κs. search needs) (λ c κs. search needs) (λ c κs. search needs) (λ c κs. search needs) (λ c. search needs)
     returns-4)

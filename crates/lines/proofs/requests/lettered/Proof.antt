@@ -9,18 +9,6 @@ use borrow.Author.Needs.{needs}
 use Rattle.lines.proofs.requests.lettered.Statement.{statement}
 use Rattle.lines.proofs.requests.lettered.Tie as tie
 
-label-requires : tie.Need-label-requires
-label-requires c κs = search needs
-
-rest-requires : tie.Need-rest-requires
-rest-requires c κs = search needs
-
-broken-requires : tie.Need-broken-requires
-broken-requires c κs = search needs
-
-same-length : tie.Need-same-length
-same-length c = search needs
-
 returns : tie.Need-returns
 returns c =
     let then1 = c .before .before .before .before in
@@ -28,12 +16,6 @@ returns c =
     let s = now (start .args .s) in
     wrote-as (ap sent (sym (lettered-not s (then1 .before .before .label .ensures) (then1 .before .rest .ensures) (start .args .kind) (then1 .if1 .taken))))
     (c .before .before .broken .ensures)
-
-broken-requires-2 : tie.Need-broken-requires-2
-broken-requires-2 c κs = search needs
-
-same-length-2 : tie.Need-same-length-2
-same-length-2 c = search needs
 
 returns-2 : tie.Need-returns-2
 returns-2 c =
@@ -46,18 +28,6 @@ returns-2 c =
 
 cast-t14 : tie.Need-cast-t14
 cast-t14 c = omega (arith, label-under _ _ (c .before .before .before .label .ensures) (c .before .if1 .left))
-
-slice-aggregate-put-frame : tie.Need-slice-aggregate-put-frame
-slice-aggregate-put-frame c = search needs
-
-slice-aggregate-put-frame-2 : tie.Need-slice-aggregate-put-frame-2
-slice-aggregate-put-frame-2 c = search needs
-
-put-frame-requires : tie.Need-put-frame-requires
-put-frame-requires c κs = search needs
-
-same-length-3 : tie.Need-same-length-3
-same-length-3 c = search needs
 
 returns-3 : tie.Need-returns-3
 unfolding sent
@@ -76,17 +46,10 @@ pub lettered-spec : {M : Type 1} → statement M
 lettered-spec =
     tie.close
     (tie.spec
-    label-requires
-    rest-requires
-    broken-requires
-    same-length
+    (λ c κs. search needs) (λ c κs. search needs) (λ c κs. search needs) (λ c. search needs)
     returns
-    broken-requires-2
-    same-length-2
+    (λ c κs. search needs) (λ c. search needs)
     returns-2
     cast-t14
-    slice-aggregate-put-frame
-    slice-aggregate-put-frame-2
-    put-frame-requires
-    same-length-3
+    (λ c. search needs) (λ c. search needs) (λ c κs. search needs) (λ c. search needs)
     returns-3)

@@ -38,41 +38,11 @@ as-read c =
       after-to = c .rest3 .ensures;
     }
 
-number-requires : tie.Need-number-requires
-number-requires c κs = search needs
-
-rest-requires : tie.Need-rest-requires
-rest-requires c κs = search needs
-
-label-requires : tie.Need-label-requires
-label-requires c κs = search needs
-
-rest-requires-2 : tie.Need-rest-requires-2
-rest-requires-2 c κs = search needs
-
-number-requires-2 : tie.Need-number-requires-2
-number-requires-2 c κs = search needs
-
-rest-requires-3 : tie.Need-rest-requires-3
-rest-requires-3 c κs = search needs
-
-broken-requires : tie.Need-broken-requires
-broken-requires c κs = search needs
-
-same-length : tie.Need-same-length
-same-length c = search needs
-
 returns : tie.Need-returns
 returns c =
     let test = c .before .before .before .before in
     let v = test .before in
     wrote-as (ap sent (sym (linked-not-from (as-read v) (start v .args .kind) (test .if1 .taken)))) (c .before .before .broken .ensures)
-
-broken-requires-2 : tie.Need-broken-requires-2
-broken-requires-2 c κs = search needs
-
-same-length-2 : tie.Need-same-length-2
-same-length-2 c = search needs
 
 returns-2 : tie.Need-returns-2
 returns-2 c =
@@ -81,12 +51,6 @@ returns-2 c =
     wrote-as (ap sent (sym (linked-not-label (as-read v) (start v .args .kind) (test .before .if1 .left) (test .if2 .taken))))
     (c .before .before .broken2 .ensures)
 
-broken-requires-3 : tie.Need-broken-requires-3
-broken-requires-3 c κs = search needs
-
-same-length-3 : tie.Need-same-length-3
-same-length-3 c = search needs
-
 returns-3 : tie.Need-returns-3
 returns-3 c =
     let test = c .before .before .before .before in
@@ -94,12 +58,6 @@ returns-3 c =
     wrote-as
     (ap sent (sym (linked-not-to (as-read v) (start v .args .kind) (test .before .before .if1 .left) (test .before .if2 .left) (test .if3 .taken))))
     (c .before .before .broken3 .ensures)
-
-broken-requires-4 : tie.Need-broken-requires-4
-broken-requires-4 c κs = search needs
-
-same-length-4 : tie.Need-same-length-4
-same-length-4 c = search needs
 
 returns-4 : tie.Need-returns-4
 returns-4 c =
@@ -111,22 +69,10 @@ returns-4 c =
     (sym (linked-more (as-read v) (start v .args .kind) (from-fits .if1 .left) (test .before .before .if2 .left) (test .before .if3 .left) (test .if4 .taken))))
     (c .before .before .broken4 .ensures)
 
-cast-put-link : tie.Need-cast-put-link
-cast-put-link c = search needs
-
 cast-put-link-2 : tie.Need-cast-put-link-2
 cast-put-link-2 c =
     let l = c .before .before .before .before .before .before .before in
     omega (arith, label-under (word (now (l .before .rest .result))) (l .label .result) (l .label .ensures) (c .before .before .if2 .left))
-
-cast-put-link-3 : tie.Need-cast-put-link-3
-cast-put-link-3 c = search needs
-
-put-link-requires : tie.Need-put-link-requires
-put-link-requires c κs = search needs
-
-same-length-5 : tie.Need-same-length-5
-same-length-5 c = search needs
 
 returns-5 : tie.Need-returns-5
 unfolding sent
@@ -143,27 +89,16 @@ pub linked-spec : {M : Type 1} → statement M
 linked-spec =
     tie.close
     (tie.spec
-    number-requires
-    rest-requires
-    label-requires
-    rest-requires-2
-    number-requires-2
-    rest-requires-3
-    broken-requires
-    same-length
+    (λ c κs. search needs) (λ c κs. search needs) (λ c κs. search needs) (λ c κs. search needs) (λ c κs. search needs) (λ c κs. search needs)
+    (λ c κs. search needs) (λ c. search needs)
     returns
-    broken-requires-2
-    same-length-2
+    (λ c κs. search needs) (λ c. search needs)
     returns-2
-    broken-requires-3
-    same-length-3
+    (λ c κs. search needs) (λ c. search needs)
     returns-3
-    broken-requires-4
-    same-length-4
+    (λ c κs. search needs) (λ c. search needs)
     returns-4
-    cast-put-link
+    (λ c. search needs)
     cast-put-link-2
-    cast-put-link-3
-    put-link-requires
-    same-length-5
+    (λ c. search needs) (λ c κs. search needs) (λ c. search needs)
     returns-5)

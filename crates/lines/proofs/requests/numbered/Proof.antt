@@ -8,18 +8,6 @@ use borrow.Author.Needs.{needs}
 use Rattle.lines.proofs.requests.numbered.Statement.{statement}
 use Rattle.lines.proofs.requests.numbered.Tie as tie
 
-number-requires : tie.Need-number-requires
-number-requires c κs = search needs
-
-rest-requires : tie.Need-rest-requires
-rest-requires c κs = search needs
-
-broken-requires : tie.Need-broken-requires
-broken-requires c κs = search needs
-
-same-length : tie.Need-same-length
-same-length c = search needs
-
 returns : tie.Need-returns
 returns c =
     let u = c .before .before .before .before .before in
@@ -29,12 +17,6 @@ returns c =
     wrote-as (ap sent (sym (numbered-not s (n .number .ensures) (u .rest .ensures) (start .args .kind) (c .before .before .before .before .if1 .taken))))
     (c .before .before .broken .ensures)
 
-broken-requires-2 : tie.Need-broken-requires-2
-broken-requires-2 c κs = search needs
-
-same-length-2 : tie.Need-same-length-2
-same-length-2 c = search needs
-
 returns-2 : tie.Need-returns-2
 returns-2 c =
     let u = c .before .before .before .before .before .before in
@@ -43,15 +25,6 @@ returns-2 c =
     let s = now (start .args .s) in
     wrote-as (ap sent (sym (numbered-more s (n .number .ensures) (u .rest .ensures) (start .args .kind) (c .before .before .before .before .if2 .taken))))
     (c .before .before .broken2 .ensures)
-
-cast-put-number : tie.Need-cast-put-number
-cast-put-number c = search needs
-
-put-number-requires : tie.Need-put-number-requires
-put-number-requires c κs = search needs
-
-same-length-3 : tie.Need-same-length-3
-same-length-3 c = search needs
 
 returns-3 : tie.Need-returns-3
 unfolding sent
@@ -70,15 +43,9 @@ pub numbered-spec : {M : Type 1} → statement M
 numbered-spec =
     tie.close
     (tie.spec
-    number-requires
-    rest-requires
-    broken-requires
-    same-length
+    (λ c κs. search needs) (λ c κs. search needs) (λ c κs. search needs) (λ c. search needs)
     returns
-    broken-requires-2
-    same-length-2
+    (λ c κs. search needs) (λ c. search needs)
     returns-2
-    cast-put-number
-    put-number-requires
-    same-length-3
+    (λ c. search needs) (λ c κs. search needs) (λ c. search needs)
     returns-3)

@@ -13,9 +13,6 @@ returns : tie.Need-returns
 unfolding read
 returns c = rw (label-size (now (c .before .args .w)) (c .if1 .taken))
 
-shared-slice-read-c : tie.Need-shared-slice-read-c
-shared-slice-read-c c = search needs
-
 returns-2 : tie.Need-returns-2
 unfolding read
 returns-2 c = rw (label-below (now (c .before .before .before .args .w)) (c .before .before .if1 .left) (c .if2 .taken))
@@ -24,12 +21,9 @@ returns-3 : tie.Need-returns-3
 unfolding read
 returns-3 c = rw (label-above (now (c .before .before .before .before .args .w)) (c .before .before .before .if1 .left) (omega arith))
 
-cast-result : tie.Need-cast-result
-cast-result c = search needs
-
 returns-4 : tie.Need-returns-4
 returns-4 c = sym (label-is (now (c .before .before .before .before .args .w)) (c .before .before .before .if1 .left) (omega arith) (omega arith))
 
 pub as-label-spec : {M : Type 1} → statement M
 as-label-spec =
-    tie.close (tie.spec returns shared-slice-read-c returns-2 returns-3 cast-result returns-4)
+    tie.close (tie.spec returns (λ c. search needs) returns-2 returns-3 (λ c. search needs) returns-4)

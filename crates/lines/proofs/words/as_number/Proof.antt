@@ -23,9 +23,6 @@ returns c = sym (number-empty (now (c .before .args .w)) (c .if1 .taken))
 loop-holds : tie.Need-loop-holds Inv-loop μ-loop
 loop-holds c = record { small = omega arith; inside = omega arith; left = refl }
 
-shared-slice-read-c : tie.Need-shared-slice-read-c Inv-loop μ-loop
-shared-slice-read-c c = omega arith
-
 returns-2 : tie.Need-returns-2 Inv-loop μ-loop
 returns-2 c =
     let l = c .before .before .before .loop in
@@ -38,15 +35,6 @@ returns-3 c =
     let w = now (c .before .before .before .before .before .before .args .w) in
     sym (number-above (l .value) w (l .i) (omega arith) (omega arith) (omega arith)) ∙ l .inv .left ∙ number-begun w (omega arith)
 
-mul-value : tie.Need-mul-value Inv-loop μ-loop
-mul-value c = omega arith
-
-cast-value : tie.Need-cast-value Inv-loop μ-loop
-cast-value c = omega arith
-
-add-value : tie.Need-add-value Inv-loop μ-loop
-add-value c = omega arith
-
 returns-4 : tie.Need-returns-4 Inv-loop μ-loop
 returns-4 c =
     let l = c .before .before .before .before .before .loop in
@@ -54,12 +42,6 @@ returns-4 c =
     let d = getD w (l .i) 0 in
     sym (number-over (l .value * 10 + (d - 48)) (drop (l .i + 1) w) (c .if4 .taken))
     ∙ number-next (l .value) w (l .i) (omega arith) (omega arith) (omega arith) ∙ l .inv .left ∙ number-begun w (omega arith)
-
-add-i : tie.Need-add-i Inv-loop μ-loop
-add-i c = omega arith
-
-loop-less : tie.Need-loop-less Inv-loop μ-loop
-loop-less c = omega arith
 
 loop-again : tie.Need-loop-again Inv-loop μ-loop
 loop-again c =
@@ -85,14 +67,11 @@ as-number-spec =
     μ-loop
     returns
     loop-holds
-    shared-slice-read-c
+    (λ c. omega arith)
     returns-2
     returns-3
-    mul-value
-    cast-value
-    add-value
+    (λ c. omega arith) (λ c. omega arith) (λ c. omega arith)
     returns-4
-    add-i
-    loop-less
+    (λ c. omega arith) (λ c. omega arith)
     loop-again
     returns-5)

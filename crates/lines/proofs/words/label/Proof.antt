@@ -8,14 +8,8 @@ use borrow.Author.Needs.{needs}
 use Rattle.lines.proofs.words.label.Statement.{statement}
 use Rattle.lines.proofs.words.label.Tie as tie
 
-word-requires : tie.Need-word-requires
-word-requires c κs = search needs
-
-as-label-requires : tie.Need-as-label-requires
-as-label-requires c κs = search needs
-
 returns : tie.Need-returns
 returns c = c .as-label .ensures ∙ ap (λ (w : List ℕ). read (isLabel w) (labelOf w)) (c .before .word .ensures)
 
 pub label-spec : {M : Type 1} → statement M
-label-spec = tie.close (tie.spec word-requires as-label-requires returns)
+label-spec = tie.close (tie.spec (λ c κs. search needs) (λ c κs. search needs) returns)

@@ -8,14 +8,8 @@ use borrow.Author.Needs.{needs}
 use Rattle.lines.proofs.words.number.Statement.{statement}
 use Rattle.lines.proofs.words.number.Tie as tie
 
-word-requires : tie.Need-word-requires
-word-requires c κs = search needs
-
-as-number-requires : tie.Need-as-number-requires
-as-number-requires c κs = search needs
-
 returns : tie.Need-returns
 returns c = c .as-number .ensures ∙ ap (λ (w : List ℕ). read (isNumber w) (numberOf w)) (c .before .word .ensures)
 
 pub number-spec : {M : Type 1} → statement M
-number-spec = tie.close (tie.spec word-requires as-number-requires returns)
+number-spec = tie.close (tie.spec (λ c κs. search needs) (λ c κs. search needs) returns)

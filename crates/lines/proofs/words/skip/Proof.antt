@@ -6,8 +6,9 @@ use native.Mathlib.Omega.{arith}
 use lib.ListN.{length, getD, length-drop}
 use denote.Ref.{now}
 use borrow.Author.Tests.{not-true, not-false}
+use Rattle.book.specs.ListLaws.{rest-whole}
 use Rattle.lines.specs.Typed.{blank, skip}
-use Rattle.lines.specs.TypedLaws.{skip-on, skip-at, skip-none, part-from}
+use Rattle.lines.specs.TypedLaws.{skip-on, skip-at, skip-none}
 use borrow.Author.Needs.{needs}
 use Rattle.lines.proofs.words.skip.Statement.{statement}
 use Rattle.lines.proofs.words.skip.Tie as tie
@@ -21,12 +22,6 @@ abbrev μ-loop : tie.MeasureT-loop
 loop-holds : tie.Need-loop-holds Inv-loop μ-loop
 loop-holds c = refl
 
-shared-slice-read-is-blank : tie.Need-shared-slice-read-is-blank Inv-loop μ-loop
-shared-slice-read-is-blank c = omega arith
-
-is-blank-requires : tie.Need-is-blank-requires Inv-loop μ-loop
-is-blank-requires c κs = search needs
-
 returns : tie.Need-returns Inv-loop μ-loop
 returns c =
     let at-loop = c .before .before .before .before in
@@ -34,26 +29,17 @@ returns c =
     let b : blank (getD t 0 0) ≡ false = sym (c .before .is-blank .ensures) ∙ not-true _ (c .if1 .taken) in
     sym (skip-at t b) ∙ at-loop .loop .inv
 
-sub-t : tie.Need-sub-t Inv-loop μ-loop
-sub-t c = omega arith
-
-part-t-start : tie.Need-part-t-start Inv-loop μ-loop
-part-t-start c = search needs
-
-part-t-end : tie.Need-part-t-end Inv-loop μ-loop
-part-t-end c = search needs
-
 loop-less : tie.Need-loop-less Inv-loop μ-loop
 loop-less c =
     let t = now (c .before .before .before .before .before .loop .t) in
-    rw (part-from t 1) (omega (arith, length-drop 1 t))
+    rw (rest-whole t 1) (omega (arith, length-drop 1 t))
 
 loop-again : tie.Need-loop-again Inv-loop μ-loop
 loop-again c =
     let at-loop = c .before .before .before .before .before in
     let t = now (at-loop .loop .t) in
     let b : blank (getD t 0 0) ≡ true = sym (c .before .before .is-blank .ensures) ∙ not-false _ (c .before .if1 .left) in
-    ap skip (part-from t 1) ∙ skip-on t (omega arith) b ∙ at-loop .loop .inv
+    ap skip (rest-whole t 1) ∙ skip-on t (omega arith) b ∙ at-loop .loop .inv
 
 returns-2 : tie.Need-returns-2 Inv-loop μ-loop
 returns-2 c = sym (skip-none (now (c .before .loop .t)) (omega arith)) ∙ c .before .loop .inv
@@ -65,12 +51,9 @@ skip-spec =
     Inv-loop
     μ-loop
     loop-holds
-    shared-slice-read-is-blank
-    is-blank-requires
+    (λ c. omega arith) (λ c κs. search needs)
     returns
-    sub-t
-    part-t-start
-    part-t-end
+    (λ c. omega arith) (λ c. search needs) (λ c. search needs)
     loop-less
     loop-again
     returns-2)

@@ -8,9 +8,6 @@ use borrow.Author.Needs.{needs}
 use Rattle.lines.proofs.words.text.Statement.{statement}
 use Rattle.lines.proofs.words.text.Tie as tie
 
-trim-requires : tie.Need-trim-requires
-trim-requires c κs = search needs
-
 slice-aggregate-result : tie.Need-slice-aggregate-result
 slice-aggregate-result c = sym (length-take-le maxText (now (c .before .before .trim .result)) (omega arith))
 
@@ -25,4 +22,4 @@ returns-2 c =
     rw (← t .ensures) (sym (take-all maxText (now (t .result)) (c .if1 .left)))
 
 pub text-spec : {M : Type 1} → statement M
-text-spec = tie.close (tie.spec trim-requires slice-aggregate-result returns returns-2)
+text-spec = tie.close (tie.spec (λ c κs. search needs) slice-aggregate-result returns returns-2)

@@ -23,15 +23,6 @@ abbrev μ-loop : tie.MeasureT-loop
 loop-holds : tie.Need-loop-holds Inv-loop μ-loop
 loop-holds c = record { inside = omega arith; left = ap trim (take-length (now (c .before .args .s))) }
 
-sub-is-blank : tie.Need-sub-is-blank Inv-loop μ-loop
-sub-is-blank c = omega arith
-
-shared-slice-read-is-blank : tie.Need-shared-slice-read-is-blank Inv-loop μ-loop
-shared-slice-read-is-blank c = omega arith
-
-is-blank-requires : tie.Need-is-blank-requires Inv-loop μ-loop
-is-blank-requires c κs = search needs
-
 slice-aggregate-result : tie.Need-slice-aggregate-result Inv-loop μ-loop
 slice-aggregate-result c = sym (length-take-le _ _ (omega arith))
 
@@ -41,12 +32,6 @@ returns c =
     let l = c .before .before .before .before .before .loop in
     let b : blank (getD s (l .n - 1) 0) ≡ false = sym (c .before .before .is-blank .ensures) ∙ not-true _ (c .before .if1 .taken) in
     sym (trim-at s (l .n) (omega arith) (omega arith) b) ∙ l .inv .left
-
-sub-n : tie.Need-sub-n Inv-loop μ-loop
-sub-n c = omega arith
-
-loop-less : tie.Need-loop-less Inv-loop μ-loop
-loop-less c = omega arith
 
 loop-again : tie.Need-loop-again Inv-loop μ-loop
 loop-again c =
@@ -70,13 +55,10 @@ trim-spec =
     Inv-loop
     μ-loop
     loop-holds
-    sub-is-blank
-    shared-slice-read-is-blank
-    is-blank-requires
+    (λ c. omega arith) (λ c. omega arith) (λ c κs. search needs)
     slice-aggregate-result
     returns
-    sub-n
-    loop-less
+    (λ c. omega arith) (λ c. omega arith)
     loop-again
     slice-aggregate-result-2
     returns-2)

@@ -8,9 +8,6 @@ use borrow.Author.Needs.{needs}
 use Rattle.lines.proofs.words.word.Statement.{statement}
 use Rattle.lines.proofs.words.word.Tie as tie
 
-word-len-requires : tie.Need-word-len-requires
-word-len-requires c κs = search needs
-
 slice-aggregate-result : tie.Need-slice-aggregate-result
 slice-aggregate-result c = sym (length-take-le _ _ (omega (arith, word-short (now (c .before .before .before .args .s)))))
 
@@ -20,4 +17,4 @@ returns c =
     rw (c .before .word-len .ensures) (take-word s)
 
 pub word-spec : {M : Type 1} → statement M
-word-spec = tie.close (tie.spec word-len-requires slice-aggregate-result returns)
+word-spec = tie.close (tie.spec (λ c κs. search needs) slice-aggregate-result returns)

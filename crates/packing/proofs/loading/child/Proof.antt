@@ -7,14 +7,8 @@ use Rattle.packing.proofs.loading.child.Tie as tie
 child-by-block-requires : tie.Need-child-by-block-requires
 child-by-block-requires c κs = let p = c .before .before .before .pre in (p .0, p .1, p .2, p .3 .1 (c .if1 .taken))
 
-returns : tie.Need-returns
-returns c = search needs
-
 child-by-word-requires : tie.Need-child-by-word-requires
 child-by-word-requires c κs = let p = c .before .before .before .pre in (p .0, omega arith, p .2, p .3 .0 (omega arith))
 
-returns-2 : tie.Need-returns-2
-returns-2 c = search needs
-
 pub child-spec : {M : Type 1} → statement M
-child-spec = tie.close (tie.spec child-by-block-requires returns child-by-word-requires returns-2)
+child-spec = tie.close (tie.spec child-by-block-requires (λ c. search needs) child-by-word-requires (λ c. search needs))

@@ -19,15 +19,6 @@ Inv-loop tree before p q i₀ n₀ i n = (p / 64 / 4 * 4 ≤ i) × (i ≤ p / 64
 abbrev μ-loop : tie.MeasureT-loop
 μ-loop tree before p q i₀ n₀ i n = p / 64 - i
 
-mul-i : tie.Need-mul-i Inv-loop μ-loop
-mul-i c = omega arith
-
-mul-n : tie.Need-mul-n Inv-loop μ-loop
-mul-n c = omega arith
-
-shared-slice-read-n : tie.Need-shared-slice-read-n Inv-loop μ-loop
-shared-slice-read-n c = omega arith
-
 cast-n : tie.Need-cast-n Inv-loop μ-loop
 cast-n c =
     let a = c .before .args in
@@ -40,12 +31,6 @@ loop-holds c =
     let k : a .p / 64 / 4 * 256 ≡ a .p / 64 / 4 * 4 * 64 = omega arith in
     (omega arith, omega arith, c .before .pre .3 (a .p / 64 / 4) (omega arith) ∙ ap (onesBelow (bitAt (a .tree .now))) k)
 
-mul-n-2 : tie.Need-mul-n-2 Inv-loop μ-loop
-mul-n-2 c = omega arith
-
-shared-slice-read-n-2 : tie.Need-shared-slice-read-n-2 Inv-loop μ-loop
-shared-slice-read-n-2 c = omega arith
-
 cast-n-2 : tie.Need-cast-n-2 Inv-loop μ-loop
 cast-n-2 c = omega (arith, ones-le 64 _ (c .shared-slice-known2 .given (c .before .before .loop .i) .fits))
 
@@ -55,12 +40,6 @@ add-n c =
     let l = c .before .before .loop in
     omega (arith, ones-le 64 _ (c .shared-slice-known2 .given (l .i) .fits), laws.ones-le (bitAt (a .tree .now)) (bit-lt (a .tree .now)) (l .i * 64))
 
-add-i : tie.Need-add-i Inv-loop μ-loop
-add-i c = omega arith
-
-loop-less : tie.Need-loop-less Inv-loop μ-loop
-loop-less c = omega arith
-
 loop-again : tie.Need-loop-again Inv-loop μ-loop
 loop-again c =
     let a = c .before .before .before .before .args in
@@ -69,18 +48,6 @@ loop-again c =
       omega arith,
       ap (λ (x : ℕ). x + ones (getD (a .tree .now) (l .i) 0)) (l .inv .2) ∙ sym (ones-word (a .tree .now) (l .i) (c .shared-slice-known2 .given (l .i) .fits)),
     )
-
-mul-result : tie.Need-mul-result Inv-loop μ-loop
-mul-result c = omega arith
-
-shared-slice-read-result : tie.Need-shared-slice-read-result Inv-loop μ-loop
-shared-slice-read-result c = omega arith
-
-sub-result : tie.Need-sub-result Inv-loop μ-loop
-sub-result c = omega arith
-
-shl-result : tie.Need-shl-result Inv-loop μ-loop
-shl-result c = omega arith
 
 cast-result : tie.Need-cast-result Inv-loop μ-loop
 cast-result c =
@@ -122,22 +89,15 @@ child-by-block-spec =
     (tie.spec
     Inv-loop
     μ-loop
-    mul-i
-    mul-n
-    shared-slice-read-n
+    (λ c. omega arith) (λ c. omega arith) (λ c. omega arith)
     cast-n
     loop-holds
-    mul-n-2
-    shared-slice-read-n-2
+    (λ c. omega arith) (λ c. omega arith)
     cast-n-2
     add-n
-    add-i
-    loop-less
+    (λ c. omega arith) (λ c. omega arith)
     loop-again
-    mul-result
-    shared-slice-read-result
-    sub-result
-    shl-result
+    (λ c. omega arith) (λ c. omega arith) (λ c. omega arith) (λ c. omega arith)
     cast-result
     add-result
     mul-result-2

@@ -10,12 +10,6 @@ use Rattle.packing.proofs.LoadLaws.{child-count}
 use Rattle.packing.proofs.loading.child_by_word.Statement.{statement}
 use Rattle.packing.proofs.loading.child_by_word.Tie as tie
 
-mul-result : tie.Need-mul-result
-mul-result c = search needs
-
-shared-slice-read-result : tie.Need-shared-slice-read-result
-shared-slice-read-result c = search needs
-
 cast-result : tie.Need-cast-result
 cast-result c =
     let a = c .before .args in
@@ -24,18 +18,6 @@ cast-result c =
       child-count (a .tree .now) (a .p) _ (c .before .pre .3 (a .p / 64) (c .before .pre .0)),
       ones-le (bitAt (a .tree .now)) (bit-lt (a .tree .now)) (a .p + 1),
     )
-
-mul-result-2 : tie.Need-mul-result-2
-mul-result-2 c = search needs
-
-shared-slice-read-result-2 : tie.Need-shared-slice-read-result-2
-shared-slice-read-result-2 c = search needs
-
-sub-result : tie.Need-sub-result
-sub-result c = search needs
-
-shl-result : tie.Need-shl-result
-shl-result c = search needs
 
 cast-result-2 : tie.Need-cast-result-2
 cast-result-2 c =
@@ -75,13 +57,9 @@ pub child-by-word-spec : {M : Type 1} → statement M
 child-by-word-spec =
     tie.close
     (tie.spec
-    mul-result
-    shared-slice-read-result
+    (λ c. search needs) (λ c. search needs)
     cast-result
-    mul-result-2
-    shared-slice-read-result-2
-    sub-result
-    shl-result
+    (λ c. search needs) (λ c. search needs) (λ c. search needs) (λ c. search needs)
     cast-result-2
     add-result
     mul-result-3

@@ -1,6 +1,6 @@
 -- `children` goes from one quarter that is not empty to the next and writes its square. The loop's invariant: the quarters passed that are not empty are
--- behind the m squares, and the quarter reached, if there is one, is not empty. The measure is the quarters left. It rests on `dive-child`, `dive-gap` and
--- `dive-all`. Assumes nothing.
+-- behind the m squares, and the quarter reached, if there is one, is not empty. The measure is the quarters left. It rests on `descend-child`,
+-- `descend-gap` and `descend-all`. Assumes nothing.
 use mathlib.Core.Path.{_≡_, refl, sym, ap, _∙_}
 use Prim.Native.Nat.{ℕ, _+_, _-_, _*_, _/_, _%_, _^_, _≤_, _<_}
 use native.Mathlib.Nat.{lt-of-lt-of-le}
@@ -12,7 +12,7 @@ use Rattle.k2.specs.BitLaws.{bit-within}
 use Rattle.k2.specs.PairSets.{Cells, union}
 use Rattle.k2.specs.Trees.{childPlace}
 use Rattle.packing.specs.Reading.{turned, quartersTo, Reads, squareBit, squareRow, squareColumn, squaresTo, Fits, FitAll, ReadAll}
-use Rattle.packing.proofs.LoadLaws.{one-le, quarters-none, quarters-more, quarter-in, quarter-even, dive-child, dive-gap, dive-all}
+use Rattle.packing.proofs.LoadLaws.{one-le, quarters-none, quarters-more, quarter-in, quarter-even, descend-child, descend-gap, descend-all}
 use Rattle.packing.proofs.SquareLaws.{all-set, squares-set}
 use Rattle.packing.proofs.loading.children.Statement.{statement}
 use Rattle.packing.proofs.loading.children.Tie as tie
@@ -53,16 +53,13 @@ loop-holds c =
       λ u n r. (
         r,
         quarters-none (a .h - 1) (a .at .row) (a .at .column) u (squaresTo (a .m) (a .h - 1) (a .next .now) 0 u)
-            ∙ dive-gap (a .sense) (a .tree .now) (a .h) (a .at .bit) (a .at .row) (a .at .column) u (squaresTo (a .m) (a .h - 1) (a .next .now) 0 u)
+            ∙ descend-gap (a .sense) (a .tree .now) (a .h) (a .at .bit) (a .at .row) (a .at .column) u (squaresTo (a .m) (a .h - 1) (a .next .now) 0 u)
             (one-le (start .pre .0)) n 0 (c .next-one .result) (f .0) (f .1) (λ j l m. sym (v j (lt-of-lt-of-le m (f .1))) ∙ f .2 j l m),
       ),
     )
 
 turn-requires : tie.Need-turn-requires Inv-loop μ-loop
 turn-requires c κs = (c .loop-test .taken, c .before .before .before .before .before .before .before .before .pre .7)
-
-add-child : tie.Need-add-child Inv-loop μ-loop
-add-child c = omega arith
 
 child-requires : tie.Need-child-requires Inv-loop μ-loop
 child-requires c κs =
@@ -110,23 +107,8 @@ square-number-requires c κs =
     let e = c .before .before .before .before .before .half .ensures .0 in
     (c .child .ensures .1, omega (arith, f .0), omega (arith, f .1))
 
-mul-next : tie.Need-mul-next Inv-loop μ-loop
-mul-next c = omega arith
-
-slice-write-next : tie.Need-slice-write-next Inv-loop μ-loop
-slice-write-next c = omega arith
-
-add-k : tie.Need-add-k Inv-loop μ-loop
-add-k c = omega arith
-
-add-next-one : tie.Need-add-next-one Inv-loop μ-loop
-add-next-one c = omega arith
-
 next-one-requires-2 : tie.Need-next-one-requires-2 Inv-loop μ-loop
 next-one-requires-2 c κs = (c .before .before .before .before .before .before .before .square .ensures .0, omega arith)
-
-loop-less : tie.Need-loop-less Inv-loop μ-loop
-loop-less c = omega arith
 
 loop-again : tie.Need-loop-again Inv-loop μ-loop
 loop-again c =
@@ -164,13 +146,13 @@ loop-again c =
           let o : bitAt (a .tree .now) (a .at .bit + turned (a .sense) (l .q)) ≡ 1 = sym (v (l .q) ql) ∙ l .inv .1 ql in
           let D : Reads (a .sense) (a .tree .now) (a .h - 1) (squareBit (w .result)) (squareRow (w .result)) (squareColumn (w .result)) u =
           rw (w .ensures .0, x, y, d .ensures .0, after-child .before .turn .ensures .0)
-          (dive-child (a .sense) (a .tree .now) (a .h) (a .at .bit) (a .at .row) (a .at .column) u hp n (l .q) ql o) in
+          (descend-child (a .sense) (a .tree .now) (a .h) (a .at .bit) (a .at .row) (a .at .column) u hp n (l .q) ql o) in
           let S : Cells = squaresTo (a .m) (a .h - 1) (a .next .now) 0 u in (
             all-set (λ (i : ℕ). Reads (a .sense) (a .tree .now) (a .h - 1) (squareBit i) (squareRow i) (squareColumn i) u)
                 (l .next) (l .k) (w .result) g (R .0) D,
             squares-set (l .k) (a .h - 1) (l .next) (w .result) u g
                 ∙ rw (x, y, R .1) (quarters-more (l .q) (a .h - 1) (a .at .row) (a .at .column) u S)
-                ∙ dive-gap (a .sense) (a .tree .now) (a .h) (a .at .bit) (a .at .row) (a .at .column) u S hp n (l .q + 1)
+                ∙ descend-gap (a .sense) (a .tree .now) (a .h) (a .at .bit) (a .at .row) (a .at .column) u S hp n (l .q + 1)
                 (c .next-one2 .result) (f .0) (f .1) (λ j p q. sym (v j (lt-of-lt-of-le q (f .1))) ∙ f .2 j p q),
           ),
     )
@@ -188,7 +170,7 @@ returns c =
       l .inv .4,
       λ u n r. let R = l .inv .5 u n r in (
         R .0,
-        R .1 ∙ rw z (ap (union (squaresTo (a .m) (a .h - 1) (a .next .now) 0 u)) (dive-all (a .h) (a .at .row) (a .at .column) u (one-le (start .pre .0)))),
+        R .1 ∙ rw z (ap (union (squaresTo (a .m) (a .h - 1) (a .next .now) 0 u)) (descend-all (a .h) (a .at .row) (a .at .column) u (one-le (start .pre .0)))),
       ),
     )
 
@@ -203,19 +185,16 @@ children-spec =
     next-one-requires
     loop-holds
     turn-requires
-    add-child
+    (λ c. omega arith)
     child-requires
     mul-square-number
     add-square-number
     mul-square-number-2
     add-square-number-2
     square-number-requires
-    mul-next
-    slice-write-next
-    add-k
-    add-next-one
+    (λ c. omega arith) (λ c. omega arith) (λ c. omega arith) (λ c. omega arith)
     next-one-requires-2
-    loop-less
+    (λ c. omega arith)
     loop-again
     same-length
     returns)

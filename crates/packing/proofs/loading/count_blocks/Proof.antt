@@ -26,29 +26,14 @@ loop-holds : tie.Need-loop-holds Inv-loop μ-loop
 unfolding onesBelow
 loop-holds c = (omega arith, refl, refl, λ k l. absurd (omega arith))
 
-mul-before : tie.Need-mul-before Inv-loop μ-loop
-mul-before c = omega arith
-
 slice-write-before : tie.Need-slice-write-before Inv-loop μ-loop
 slice-write-before c = omega (arith, c .before .before .loop .inv .1)
-
-mul-n : tie.Need-mul-n Inv-loop μ-loop
-mul-n c = omega arith
-
-shared-slice-read-n : tie.Need-shared-slice-read-n Inv-loop μ-loop
-shared-slice-read-n c = omega arith
 
 add-n : tie.Need-add-n Inv-loop μ-loop
 add-n c =
     let l = c .before .before .before .loop in
     let ws = c .before .before .before .before .args .tree .now in
     omega (arith, ones-le 64 _ (c .shared-slice-known .given (l .i) .fits), laws.ones-le (bitAt ws) (bit-lt ws) (l .i * 64))
-
-add-i : tie.Need-add-i Inv-loop μ-loop
-add-i c = omega arith
-
-loop-less : tie.Need-loop-less Inv-loop μ-loop
-loop-less c = omega arith
 
 loop-again : tie.Need-loop-again Inv-loop μ-loop
 loop-again c =
@@ -66,9 +51,6 @@ loop-again c =
     (λ w. (omega arith, rw (w .1) (l .inv .1), n, rw (w .1) (count-in (l .before) (l .i) (bitAt ws) (w .0 .left) (l .inv .3))))
     (c .before .if1 .came)
 
-same-length : tie.Need-same-length Inv-loop μ-loop
-same-length c = search needs
-
 returns : tie.Need-returns Inv-loop μ-loop
 returns c =
     let l = c .before .loop in
@@ -82,13 +64,11 @@ count-blocks-spec =
     Inv-loop
     μ-loop
     loop-holds
-    mul-before
+    (λ c. omega arith)
     slice-write-before
-    mul-n
-    shared-slice-read-n
+    (λ c. omega arith) (λ c. omega arith)
     add-n
-    add-i
-    loop-less
+    (λ c. omega arith) (λ c. omega arith)
     loop-again
-    same-length
+    (λ c. search needs)
     returns)

@@ -25,29 +25,11 @@ loop-holds : tie.Need-loop-holds Inv-loop μ-loop
 unfolding onesBelow
 loop-holds c = (omega arith, refl, refl, λ k l. absurd (omega arith))
 
-mul-before : tie.Need-mul-before Inv-loop μ-loop
-mul-before c = omega arith
-
-slice-write-before : tie.Need-slice-write-before Inv-loop μ-loop
-slice-write-before c = omega arith
-
-mul-n : tie.Need-mul-n Inv-loop μ-loop
-mul-n c = omega arith
-
-shared-slice-read-n : tie.Need-shared-slice-read-n Inv-loop μ-loop
-shared-slice-read-n c = omega arith
-
 add-n : tie.Need-add-n Inv-loop μ-loop
 add-n c =
     let l = c .before .before .loop in
     let ws = c .before .before .before .args .tree .now in
     omega (arith, ones-le 64 _ (c .shared-slice-known .given (l .i) .fits), laws.ones-le (bitAt ws) (bit-lt ws) (l .i * 64))
-
-add-i : tie.Need-add-i Inv-loop μ-loop
-add-i c = omega arith
-
-loop-less : tie.Need-loop-less Inv-loop μ-loop
-loop-less c = omega arith
 
 loop-again : tie.Need-loop-again Inv-loop μ-loop
 loop-again c =
@@ -59,9 +41,6 @@ loop-again c =
       ap (λ (x : ℕ). x + ones (getD ws (l .i) 0)) (l .inv .2) ∙ sym (ones-word ws (l .i) f),
       count-set (l .before) (l .i) (l .n) (λ k. onesBelow (bitAt ws) (k * 64)) (omega arith) (l .inv .3) (l .inv .2),
     )
-
-same-length : tie.Need-same-length Inv-loop μ-loop
-same-length c = search needs
 
 returns : tie.Need-returns Inv-loop μ-loop
 returns c =
@@ -76,13 +55,9 @@ count-words-spec =
     Inv-loop
     μ-loop
     loop-holds
-    mul-before
-    slice-write-before
-    mul-n
-    shared-slice-read-n
+    (λ c. omega arith) (λ c. omega arith) (λ c. omega arith) (λ c. omega arith)
     add-n
-    add-i
-    loop-less
+    (λ c. omega arith) (λ c. omega arith)
     loop-again
-    same-length
+    (λ c. search needs)
     returns)

@@ -8,12 +8,6 @@ use Rattle.packing.proofs.LoadLaws.{half-law}
 use Rattle.packing.proofs.loading.half.Statement.{statement}
 use Rattle.packing.proofs.loading.half.Tie as tie
 
-sub-result : tie.Need-sub-result
-sub-result c = search needs
-
-shl-result : tie.Need-shl-result
-shl-result c = search needs
-
 returns : tie.Need-returns
 returns c =
     let h = c .args .h in
@@ -22,4 +16,4 @@ returns c =
     (e, rw e (l .0), rw e (l .1))
 
 pub half-spec : {M : Type 1} → statement M
-half-spec = tie.close (tie.spec sub-result shl-result returns)
+half-spec = tie.close (tie.spec (λ c. search needs) (λ c. search needs) returns)

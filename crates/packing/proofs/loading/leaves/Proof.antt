@@ -9,7 +9,8 @@ use Rattle.k2.specs.PairSets.{Cells, union}
 use Rattle.rows.specs.Rows.{flat}
 use Rattle.packing.specs.Reading.{inside, squareBit, squareRow, squareColumn, squaresTo, ReadAll}
 use Rattle.packing.proofs.LoadLaws.{reads-cell}
-use Rattle.packing.proofs.SquareLaws.{squares-none, squares-next, union-next}
+use Rattle.rows.specs.RowLaws.{union-join}
+use Rattle.packing.proofs.SquareLaws.{squares-none, squares-next}
 use Rattle.packing.proofs.loading.leaves.Statement.{statement}
 use Rattle.packing.proofs.loading.leaves.Tie as tie
 
@@ -24,15 +25,6 @@ abbrev μ-loop : tie.MeasureT-loop
 loop-holds : tie.Need-loop-holds Inv-loop μ-loop
 loop-holds c = let a = c .before .before .before .args in (omega arith, refl, λ s u e n. e ∙ ap flat (squares-none 1 (a .list .now) (a .part .from) u s))
 
-add-w : tie.Need-add-w Inv-loop μ-loop
-add-w c = omega arith
-
-mul-w : tie.Need-mul-w Inv-loop μ-loop
-mul-w c = omega arith
-
-shared-slice-read-w : tie.Need-shared-slice-read-w Inv-loop μ-loop
-shared-slice-read-w c = omega arith
-
 square-requires : tie.Need-square-requires Inv-loop μ-loop
 square-requires c κs = let f = c .before .before .before .before .before .before .pre .4 (c .before .before .loop .i) (omega arith) in (f .0, omega arith)
 
@@ -42,12 +34,6 @@ put-cells-requires c κs =
     let start = at-loop .before .before .before .before in
     let f = start .pre .4 (at-loop .loop .i) (omega arith) in
     (f .2, f .3, f .4, c .before .square .ensures .0, at-loop .loop .inv .1 ∙ start .pre .3)
-
-add-i : tie.Need-add-i Inv-loop μ-loop
-add-i c = omega arith
-
-loop-less : tie.Need-loop-less Inv-loop μ-loop
-loop-less c = omega arith
 
 loop-again : tie.Need-loop-again Inv-loop μ-loop
 loop-again c =
@@ -64,7 +50,7 @@ loop-again c =
           p .ensures (union s (squaresTo (l .i) 1 (a .list .now) (a .part .from) u)) u (l .inv .2 s u e n)
           (λ q g. after-square .square .ensures .1 q g
           ∙ reads-cell (a .sense) (a .tree .now) (squareBit w) (squareRow w) (squareColumn w) u (n (l .i) (omega arith)) q g)
-          ∙ ap flat (union-next s (squaresTo (l .i) 1 (a .list .now) (a .part .from) u) (inside 1 (squareRow w) (squareColumn w) u)
+          ∙ ap flat (union-join s (squaresTo (l .i) 1 (a .list .now) (a .part .from) u) (inside 1 (squareRow w) (squareColumn w) u)
           ∙ ap (union s) (sym (squares-next (l .i) 1 (a .list .now) (a .part .from) u))),
     )
 
@@ -84,13 +70,10 @@ leaves-spec =
     Inv-loop
     μ-loop
     loop-holds
-    add-w
-    mul-w
-    shared-slice-read-w
+    (λ c. omega arith) (λ c. omega arith) (λ c. omega arith)
     square-requires
     put-cells-requires
-    add-i
-    loop-less
+    (λ c. omega arith) (λ c. omega arith)
     loop-again
     same-length
     returns)

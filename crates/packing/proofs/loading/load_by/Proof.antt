@@ -12,23 +12,8 @@ use Rattle.packing.proofs.SquareLaws.{root-fits, root-reads, root-squar
 use Rattle.packing.proofs.loading.load_by.Statement.{statement}
 use Rattle.packing.proofs.loading.load_by.Tie as tie
 
-slice-aggregate-count : tie.Need-slice-aggregate-count
-slice-aggregate-count c = search needs
-
-count-requires : tie.Need-count-requires
-count-requires c κs = search needs
-
-slice-aggregate-dive : tie.Need-slice-aggregate-dive
-slice-aggregate-dive c = search needs
-
-height-requires : tie.Need-height-requires
-height-requires c κs = search needs
-
-slice-aggregate-dive-2 : tie.Need-slice-aggregate-dive-2
-slice-aggregate-dive-2 c = search needs
-
-dive-requires : tie.Need-dive-requires
-dive-requires c κs =
+descend-requires : tie.Need-descend-requires
+descend-requires c κs =
     let h = c .before .before .height .ensures in
     let p = c .before .before .before .before .before .before .before .before .before .pre in (
       h .1,
@@ -43,16 +28,13 @@ dive-requires c κs =
       root-fits (c .before .before .height .result) (pow-mono {j = 10} (h .2)),
     )
 
-same-length : tie.Need-same-length
-same-length c = search needs
-
 returns : tie.Need-returns
 returns c =
     let h = c .before .before .before .before .before .height in
     let g = c .before .before .before .before .before .before .before .before .before .before .before .before .args in
     λ a x is e r.
     let t : Cells = turnedBy (g .sense) a in
-    c .before .before .dive .ensures x t r
+    c .before .before .descend .ensures x t r
     (root-reads (g .sense) (g .tree .now) (h .result) t (reads-tree (g .sense) (g .n) (h .result) (g .tree .now) a (h .ensures .0) is e))
     ∙ ap (λ (s : Cells). flat (union x s)) (root-squares (h .result) t ∙ inside-all (g .n) (h .result) t (h .ensures .3) (turnedBy-set (g .sense) (g .n) a is))
 
@@ -60,11 +42,7 @@ pub load-by-spec : {M : Type 1} → statement M
 load-by-spec =
     tie.close
     (tie.spec
-    slice-aggregate-count
-    count-requires
-    slice-aggregate-dive
-    height-requires
-    slice-aggregate-dive-2
-    dive-requires
-    same-length
+    (λ c. search needs) (λ c κs. search needs) (λ c. search needs) (λ c κs. search needs) (λ c. search needs)
+    descend-requires
+    (λ c. search needs)
     returns)

@@ -5,12 +5,6 @@ use Rattle.packing.proofs.LoadLaws.{next-le, next-clear, next-set}
 use Rattle.packing.proofs.loading.next_one.Statement.{statement}
 use Rattle.packing.proofs.loading.next_one.Tie as tie
 
-add-result : tie.Need-add-result
-add-result c = search needs
-
-shr-result : tie.Need-shr-result
-shr-result c = search needs
-
 cast-result : tie.Need-cast-result
 cast-result c = omega (arith, next-le (c .args .v) (c .args .q) (c .pre .0) (c .pre .1))
 
@@ -24,4 +18,4 @@ returns c =
     (omega arith, next-le v q (c .pre .0) (c .pre .1), next-clear v q (c .pre .0) (c .pre .1), next-set v q (c .pre .0) (c .pre .1))
 
 pub next-one-spec : {M : Type 1} → statement M
-next-one-spec = tie.close (tie.spec add-result shr-result cast-result add-result-2 returns)
+next-one-spec = tie.close (tie.spec (λ c. search needs) (λ c. search needs) cast-result add-result-2 returns)

@@ -10,32 +10,14 @@ use Rattle.packing.proofs.LoadLaws.{four-cells}
 use Rattle.packing.proofs.loading.put_cells.Statement.{statement}
 use Rattle.packing.proofs.loading.put_cells.Tie as tie
 
-mul-or-two : tie.Need-mul-or-two
-mul-or-two c = search needs
-
-add-or-two : tie.Need-add-or-two
-add-or-two c = search needs
-
 or-two-requires : tie.Need-or-two-requires
 or-two-requires c κs = (omega arith, omega arith, omega arith)
-
-add-or-two-2 : tie.Need-add-or-two-2
-add-or-two-2 c = search needs
-
-mul-or-two-2 : tie.Need-mul-or-two-2
-mul-or-two-2 c = search needs
-
-add-or-two-3 : tie.Need-add-or-two-3
-add-or-two-3 c = search needs
 
 or-two-requires-2 : tie.Need-or-two-requires-2
 or-two-requires-2 c κs =
     let after-or-two = c .before .before .before in
     let start = after-or-two .before .before .before in
     let k : length (after-or-two .or-two .last .0) ≡ length (start .args .rows .now) = after-or-two .or-two .kept .0 in (omega arith, omega arith, omega arith)
-
-same-length : tie.Need-same-length
-same-length c = search needs
 
 returns : tie.Need-returns
 returns c =
@@ -53,12 +35,9 @@ pub put-cells-spec : {M : Type 1} → statement M
 put-cells-spec =
     tie.close
     (tie.spec
-    mul-or-two
-    add-or-two
+    (λ c. search needs) (λ c. search needs)
     or-two-requires
-    add-or-two-2
-    mul-or-two-2
-    add-or-two-3
+    (λ c. search needs) (λ c. search needs) (λ c. search needs)
     or-two-requires-2
-    same-length
+    (λ c. search needs)
     returns)

@@ -23,27 +23,12 @@ loop-holds : tie.Need-loop-holds Inv-loop μ-loop
 unfolding squaresTo
 loop-holds c = (omega arith, omega arith, refl, λ j l. absurd (omega arith), λ u n. (λ j l. absurd (omega arith), refl))
 
-add-w : tie.Need-add-w Inv-loop μ-loop
-add-w c = omega arith
-
-mul-w : tie.Need-mul-w Inv-loop μ-loop
-mul-w c = omega arith
-
-shared-slice-read-w : tie.Need-shared-slice-read-w Inv-loop μ-loop
-shared-slice-read-w c = omega arith
-
 children-requires : tie.Need-children-requires Inv-loop μ-loop
 children-requires c κs =
     let w = c .before .before .before .before .before .before .before .before .pre in
     let l = c .before .before .before .loop in
     let f = w .9 (l .i) (omega arith) in
     (w .0, w .1, f .0, f .1, f .2, f .3, f .4, w .2, w .3, w .4, w .5, omega arith, l .inv .3)
-
-add-i : tie.Need-add-i Inv-loop μ-loop
-add-i c = omega arith
-
-loop-less : tie.Need-loop-less Inv-loop μ-loop
-loop-less c = omega arith
 
 loop-again : tie.Need-loop-again Inv-loop μ-loop
 loop-again c =
@@ -80,12 +65,9 @@ spread-spec =
     Inv-loop
     μ-loop
     loop-holds
-    add-w
-    mul-w
-    shared-slice-read-w
+    (λ c. omega arith) (λ c. omega arith) (λ c. omega arith)
     children-requires
-    add-i
-    loop-less
+    (λ c. omega arith) (λ c. omega arith)
     loop-again
     same-length
     returns)

@@ -5,12 +5,6 @@ use borrow.Author.Needs.{needs}
 use Rattle.packing.proofs.loading.turn.Statement.{statement}
 use Rattle.packing.proofs.loading.turn.Tie as tie
 
-mul-result : tie.Need-mul-result
-mul-result c = search needs
-
-add-result : tie.Need-add-result
-add-result c = search needs
-
 returns : tie.Need-returns
 returns c = (rw (c .if1 .taken) refl, omega arith)
 
@@ -18,4 +12,4 @@ returns-2 : tie.Need-returns-2
 returns-2 c = let z : c .before .args .sense ≡ 0 = omega arith in (rw z refl, omega arith)
 
 pub turn-spec : {M : Type 1} → statement M
-turn-spec = tie.close (tie.spec mul-result add-result returns returns-2)
+turn-spec = tie.close (tie.spec (λ c. search needs) (λ c. search needs) returns returns-2)

@@ -40,9 +40,6 @@ side c = one-shl (c .args .g) (omega arith)
 few : (c : tie.Start Inv-loop2 μ-loop2 Inv-loop μ-loop) → (1 * 2 ^ (c .args .g)) % 2 ^ 64 ≤ 128
 few c = rw (side c) (pow-mono {j = 7} (c .pre .0))
 
-shl-side : tie.Need-shl-side Inv-loop2 μ-loop2 Inv-loop μ-loop
-shl-side c = omega arith
-
 loop-holds : tie.Need-loop-holds Inv-loop2 μ-loop2 Inv-loop μ-loop
 loop-holds c =
     let a = c .before .before .args in
@@ -68,9 +65,6 @@ fill-eight-requires c κs =
       omega (arith, at-loop2 .loop2 .inv .2, at-loop2 .before .before .loop .inv .1),
     )
 
-add-c : tie.Need-add-c Inv-loop2 μ-loop2 Inv-loop μ-loop
-add-c c = omega arith
-
 loop2-less : tie.Need-loop2-less Inv-loop2 μ-loop2 Inv-loop μ-loop
 loop2-less c = omega (arith, few (c .before .before .before .before .before .before .before .before .before .before))
 
@@ -90,12 +84,6 @@ loop2-again c =
           rw x at (f .ensures s is e (l .inv .3 s is e h)),
     )
 
-add-r : tie.Need-add-r Inv-loop2 μ-loop2 Inv-loop μ-loop
-add-r c = omega arith
-
-loop-less : tie.Need-loop-less Inv-loop2 μ-loop2 Inv-loop μ-loop
-loop-less c = omega arith
-
 loop-again : tie.Need-loop-again Inv-loop2 μ-loop2 Inv-loop μ-loop
 loop-again c =
     let at-loop = c .before .before .before in
@@ -111,9 +99,6 @@ loop-again c =
           ∙ ap (λ (t : Cells). raised (a .base) (cells (a .g + 3) t))
           (to-row (a .g) (p .0) s is (l .r) (k .c) (rw (side start) at (c .loop2-test .left)) (k .inv .0)),
     )
-
-same-length : tie.Need-same-length Inv-loop2 μ-loop2 Inv-loop μ-loop
-same-length c = search needs
 
 returns : tie.Need-returns Inv-loop2 μ-loop2 Inv-loop μ-loop
 returns c =
@@ -131,15 +116,14 @@ fill-spec =
     μ-loop2
     Inv-loop
     μ-loop
-    shl-side
+    (λ c. omega arith)
     loop-holds
     loop2-holds
     fill-eight-requires
-    add-c
+    (λ c. omega arith)
     loop2-less
     loop2-again
-    add-r
-    loop-less
+    (λ c. omega arith) (λ c. omega arith)
     loop-again
-    same-length
+    (λ c. search needs)
     returns)

@@ -17,12 +17,6 @@ few c = omega (arith, pow-mono {j = 7} (c .pre .0))
 small : (c : tie.Start) → 4 ^ (c .args .g) ≤ 1048576
 small c = four-most (c .args .g) (omega arith)
 
-mul-if1 : tie.Need-mul-if1
-mul-if1 c = omega arith
-
-shr-if1 : tie.Need-shr-if1
-shr-if1 c = omega arith
-
 returns : tie.Need-returns
 returns c =
     let start = c .before .before .before in
@@ -41,23 +35,17 @@ add-block c = omega (arith, few (c .before .before .before))
 block-requires : tie.Need-block-requires
 block-requires c κs = (omega (arith, few (c .before .before .before)), omega arith)
 
-place-requires : tie.Need-place-requires
-place-requires c κs = omega arith
-
 mul-or-word : tie.Need-mul-or-word
-mul-or-word c = let z = c .before .place .ensures .1 in omega (arith, small (c .before .before .before .before .before .before .before))
+mul-or-word c = let z = c .before .morton-place .ensures .1 in omega (arith, small (c .before .before .before .before .before .before .before))
 
 add-or-word : tie.Need-add-or-word
-add-or-word c = let z = c .before .place .ensures .1 in omega (arith, small (c .before .before .before .before .before .before .before))
+add-or-word c = let z = c .before .morton-place .ensures .1 in omega (arith, small (c .before .before .before .before .before .before .before))
 
 shuffle-requires : tie.Need-shuffle-requires
 shuffle-requires c κs = tt
 
 or-word-requires : tie.Need-or-word-requires
-or-word-requires c κs = let z = c .before .before .place .ensures .1 in omega arith
-
-same-length : tie.Need-same-length
-same-length c = search needs
+or-word-requires c κs = let z = c .before .before .morton-place .ensures .1 in omega arith
 
 returns-2 : tie.Need-returns-2
 returns-2 c =
@@ -68,7 +56,7 @@ returns-2 c =
     let p = start .pre in
     let v = then2 .before .block in
     let w = after-shuffle .shuffle in
-    let z = after-shuffle .before .before .place in
+    let z = after-shuffle .before .before .morton-place in
     λ s is e h.
     turn-some (a .rows .now) s e (a .r) (a .c) (omega arith) (a .g) (p .0) is (p .1) (a .base) (v .result) (omega arith) (v .ensures) (bitAt (a .heap .now)) h
     (then2 .if2 .taken) (w .result) (z .result) (omega arith) (w .ensures) (z .ensures .0) _ (c .before .before .or-word .ensures)
@@ -87,17 +75,16 @@ pub fill-block-spec : {M : Type 1} → statement M
 fill-block-spec =
     tie.close
     (tie.spec
-    mul-if1
-    shr-if1
+    (λ c. omega arith) (λ c. omega arith)
     returns
     mul-block
     add-block
     block-requires
-    place-requires
+    (λ c κs. omega arith)
     mul-or-word
     add-or-word
     shuffle-requires
     or-word-requires
-    same-length
+    (λ c. search needs)
     returns-2
     returns-3)

@@ -41,9 +41,6 @@ loop-holds c =
     let a = c .before .before .before .before .args in
     (omega arith, refl, λ s is e h. let z : a .r * 128 + a .c + 0 ≡ a .r * 128 + a .c = omega arith in rw z h)
 
-add-fill-block : tie.Need-add-fill-block Inv-loop μ-loop
-add-fill-block c = omega arith
-
 fill-block-requires : tie.Need-fill-block-requires Inv-loop μ-loop
 fill-block-requires c κs =
     let after-together = c .before .before .before .before in
@@ -53,12 +50,6 @@ fill-block-requires c κs =
     let l = c .before .before .loop in
     let z : (a .c + l .k) / 8 ≡ a .c / 8 = omega arith in
     (p .0, p .1, omega arith, p .4, p .5, omega (arith, l .inv .1), rw z (after-together .together .ensures .1))
-
-add-k : tie.Need-add-k Inv-loop μ-loop
-add-k c = omega arith
-
-loop-less : tie.Need-loop-less Inv-loop μ-loop
-loop-less c = omega arith
 
 loop-again : tie.Need-loop-again Inv-loop μ-loop
 loop-again c =
@@ -72,9 +63,6 @@ loop-again c =
           let y : a .r * 128 + (a .c + l .k) + 1 ≡ a .r * 128 + a .c + (l .k + 1) = omega arith in
           rw y at (f .ensures s is e (rw x (l .inv .2 s is e h))),
     )
-
-same-length : tie.Need-same-length Inv-loop μ-loop
-same-length c = search needs
 
 returns : tie.Need-returns Inv-loop μ-loop
 returns c = let l = c .before .loop in let e : l .k ≡ 8 = omega arith in λ s is r h. rw e at (l .inv .2 s is r h)
@@ -98,11 +86,10 @@ fill-eight-spec =
     add-together
     together-requires
     loop-holds
-    add-fill-block
+    (λ c. omega arith)
     fill-block-requires
-    add-k
-    loop-less
+    (λ c. omega arith) (λ c. omega arith)
     loop-again
-    same-length
+    (λ c. search needs)
     returns
     returns-2)

@@ -25,22 +25,10 @@ loop-holds c =
     let h = c .before .args .heap .now in
     (omega arith, omega arith, refl, λ b f p l e. let z : b ≡ min b (16 * length h - 1) = omega arith in rw z at e)
 
-sub-quiet : tie.Need-sub-quiet Inv-loop μ-loop
-sub-quiet c = omega arith
-
-quiet-requires : tie.Need-quiet-requires Inv-loop μ-loop
-quiet-requires c κs = omega arith
-
-sub-i : tie.Need-sub-i Inv-loop μ-loop
-sub-i c = omega arith
-
-loop-less : tie.Need-loop-less Inv-loop μ-loop
-loop-less c = omega arith
-
 loop-again : tie.Need-loop-again Inv-loop μ-loop
 loop-again c =
     let l = c .before .before .before .before .before .loop in
-    let q = c .before .quiet .ensures (c .if2 .taken) in (
+    let q = c .before .all-zero .ensures (c .if2 .taken) in (
       omega arith,
       omega arith,
       l .inv .2,
@@ -49,14 +37,8 @@ loop-again c =
           (λ j x y. bit-zero (l .heap) j (q .1 (j / 64) (omega arith) (omega arith))) (l .inv .3 b f p k e),
     )
 
-sub-i-2 : tie.Need-sub-i-2 Inv-loop μ-loop
-sub-i-2 c = omega arith
-
 lift-word-requires : tie.Need-lift-word-requires Inv-loop μ-loop
 lift-word-requires c κs = (omega arith, omega (arith, c .before .before .before .loop .inv .2))
-
-loop-less-2 : tie.Need-loop-less-2 Inv-loop μ-loop
-loop-less-2 c = omega arith
 
 loop-again-2 : tie.Need-loop-again-2 Inv-loop μ-loop
 loop-again-2 c =
@@ -73,9 +55,6 @@ loop-again-2 c =
 lift-first-requires : tie.Need-lift-first-requires Inv-loop μ-loop
 lift-first-requires c κs = omega (arith, c .before .before .loop .inv .2)
 
-same-length : tie.Need-same-length Inv-loop μ-loop
-same-length c = search needs
-
 returns : tie.Need-returns Inv-loop μ-loop
 returns c =
     let l = c .before .before .before .before .before .loop in
@@ -89,15 +68,12 @@ lift-spec =
     Inv-loop
     μ-loop
     loop-holds
-    sub-quiet
-    quiet-requires
-    sub-i
-    loop-less
+    (λ c. omega arith) (λ c κs. omega arith) (λ c. omega arith) (λ c. omega arith)
     loop-again
-    sub-i-2
+    (λ c. omega arith)
     lift-word-requires
-    loop-less-2
+    (λ c. omega arith)
     loop-again-2
     lift-first-requires
-    same-length
+    (λ c. search needs)
     returns)

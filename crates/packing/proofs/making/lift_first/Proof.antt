@@ -22,23 +22,8 @@ abbrev μ-loop : tie.MeasureT-loop
 loop-holds : tie.Need-loop-holds Inv-loop μ-loop
 loop-holds c = (omega arith, refl, λ b f h e. e)
 
-mul-four : tie.Need-mul-four Inv-loop μ-loop
-mul-four c = omega arith
-
-four-requires : tie.Need-four-requires Inv-loop μ-loop
-four-requires c κs = omega arith
-
-sub-set-bit : tie.Need-sub-set-bit Inv-loop μ-loop
-sub-set-bit c = omega arith
-
 set-bit-requires : tie.Need-set-bit-requires Inv-loop μ-loop
 set-bit-requires c κs = omega (arith, c .before .before .before .before .before .loop .inv .1)
-
-sub-q : tie.Need-sub-q Inv-loop μ-loop
-sub-q c = omega arith
-
-loop-less : tie.Need-loop-less Inv-loop μ-loop
-loop-less c = omega arith
 
 loop-again : tie.Need-loop-again Inv-loop μ-loop
 loop-again c =
@@ -59,9 +44,6 @@ loop-again c =
     ))
     (c .if1 .came)
 
-same-length : tie.Need-same-length Inv-loop μ-loop
-same-length c = search needs
-
 returns : tie.Need-returns Inv-loop μ-loop
 returns c =
     let l = c .before .loop in
@@ -75,12 +57,9 @@ lift-first-spec =
     Inv-loop
     μ-loop
     loop-holds
-    mul-four
-    four-requires
-    sub-set-bit
+    (λ c. omega arith) (λ c κs. omega arith) (λ c. omega arith)
     set-bit-requires
-    sub-q
-    loop-less
+    (λ c. omega arith) (λ c. omega arith)
     loop-again
-    same-length
+    (λ c. search needs)
     returns)

@@ -9,27 +9,6 @@ use Rattle.packing.proofs.LiftLaws.{lift-word, lift-gap}
 use Rattle.packing.proofs.making.lift_word.Statement.{statement}
 use Rattle.packing.proofs.making.lift_word.Tie as tie
 
-mul-w : tie.Need-mul-w
-mul-w c = search needs
-
-slice-read-w : tie.Need-slice-read-w
-slice-read-w c = search needs
-
-mul-or-word : tie.Need-mul-or-word
-mul-or-word c = search needs
-
-sub-or-word : tie.Need-sub-or-word
-sub-or-word c = search needs
-
-summary-requires : tie.Need-summary-requires
-summary-requires c κs = search needs
-
-or-word-requires : tie.Need-or-word-requires
-or-word-requires c κs = search needs
-
-same-length : tie.Need-same-length
-same-length c = search needs
-
 returns : tie.Need-returns
 returns c =
     let after-summary = c .before .before .before in
@@ -51,12 +30,6 @@ pub lift-word-spec : {M : Type 1} → statement M
 lift-word-spec =
     tie.close
     (tie.spec
-    mul-w
-    slice-read-w
-    mul-or-word
-    sub-or-word
-    summary-requires
-    or-word-requires
-    same-length
+    (λ c. search needs) (λ c. search needs) (λ c. search needs) (λ c. search needs) (λ c κs. search needs) (λ c κs. search needs) (λ c. search needs)
     returns
     returns-2)

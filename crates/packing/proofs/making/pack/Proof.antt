@@ -10,18 +10,6 @@ use Rattle.packing.proofs.PackLaws.{packed-tree}
 use Rattle.packing.proofs.making.pack.Statement.{statement}
 use Rattle.packing.proofs.making.pack.Tie as tie
 
-height-requires : tie.Need-height-requires
-height-requires c κs = search needs
-
-tree-unit-requires : tie.Need-tree-unit-requires
-tree-unit-requires c κs = search needs
-
-add-end : tie.Need-add-end
-add-end c = search needs
-
-slice-relend-prefix-pack-part : tie.Need-slice-relend-prefix-pack-part
-slice-relend-prefix-pack-part c = search needs
-
 slice-aggregate-pack-part : tie.Need-slice-aggregate-pack-part
 slice-aggregate-pack-part c = rw length-take (omega (arith, c .before .tree-unit .ensures .0))
 
@@ -33,9 +21,6 @@ pack-part-requires c κs =
     let s : u .result ≡ (fullSize (h .result) 1 + 63) / 64 =
     u .ensures .0 ∙ treeUnit-size (start .args .n) ∙ ap (λ (x : ℕ). (fullSize x 1 + 63) / 64) (sym (h .ensures .0)) in
     (start .pre .0, h .ensures .1, h .ensures .2, rw length-take (omega arith))
-
-same-length : tie.Need-same-length
-same-length c = search needs
 
 returns : tie.Need-returns
 returns c =
@@ -54,11 +39,8 @@ pub pack-spec : {M : Type 1} → statement M
 pack-spec =
     tie.close
     (tie.spec
-    height-requires
-    tree-unit-requires
-    add-end
-    slice-relend-prefix-pack-part
+    (λ c κs. search needs) (λ c κs. search needs) (λ c. search needs) (λ c. search needs)
     slice-aggregate-pack-part
     pack-part-requires
-    same-length
+    (λ c. search needs)
     returns)

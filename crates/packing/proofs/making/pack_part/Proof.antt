@@ -6,25 +6,13 @@ use native.Mathlib.Omega.{arith}
 use borrow.Author.Needs.{needs}
 use lib.ListN.{length}
 use Rattle.k2.specs.Bits.{bitAt, wordsOf}
-use Rattle.k2.specs.Heap.{fullSize, full, squeezed}
+use Rattle.k2.specs.Heap.{fullSize, full, compacted}
 use Rattle.k2.specs.SizeLaws.{fullSize-most}
 use Rattle.bits.specs.BitSetLaws.{bits-none}
 use Rattle.packing.specs.Image.{above}
 use Rattle.packing.proofs.PackLaws.{full-groups, block-set, part-cells, part-heaped, part-next, part-room}
 use Rattle.packing.proofs.making.pack_part.Statement.{statement}
 use Rattle.packing.proofs.making.pack_part.Tie as tie
-
-clear-requires : tie.Need-clear-requires
-clear-requires c κs = search needs
-
-block-levels-requires : tie.Need-block-levels-requires
-block-levels-requires c κs = search needs
-
-sub-full-size : tie.Need-sub-full-size
-sub-full-size c = search needs
-
-full-size-requires : tie.Need-full-size-requires
-full-size-requires c κs = search needs
 
 fill-requires : tie.Need-fill-requires
 fill-requires c κs =
@@ -47,8 +35,8 @@ lift-requires c κs =
     let l : length (after-fill .fill .last .1 .1 .1 .0) ≡ length (after-clear .clear .last .0) = after-fill .fill .kept .1 .1 .1 .0 in
     omega (arith, start .pre .3)
 
-squeeze-requires : tie.Need-squeeze-requires
-squeeze-requires c κs =
+compact-requires : tie.Need-compact-requires
+compact-requires c κs =
     let after-lift = c .before .before .before in
     let after-fill = after-lift .before .before .before .before in
     let after-clear = after-fill .before .before .before .before .before .before in
@@ -57,9 +45,6 @@ squeeze-requires c κs =
     let l : length (after-fill .fill .last .1 .1 .1 .0) ≡ length (after-clear .clear .last .0) = after-fill .fill .kept .1 .1 .1 .0 in
     let m : length (after-lift .lift .last .0) ≡ length (after-fill .fill .last .1 .1 .1 .0) = after-lift .lift .kept .0 in
     omega (arith, start .pre .3, fullSize-most (start .args .h) (start .pre .2))
-
-same-length : tie.Need-same-length
-same-length c = search needs
 
 returns : tie.Need-returns
 returns c =
@@ -75,7 +60,7 @@ returns c =
     let cl = after-clear .clear in
     let fi = after-fill .fill in
     let li = after-lift .lift in
-    let sq = c .before .before .squeeze in
+    let sq = c .before .before .compact in
     let k : length (cl .last .0) ≡ length (start .args .heap .now) = cl .kept .0 in
     let l : length (fi .last .1 .1 .1 .0) ≡ length (cl .last .0) = fi .kept .1 .1 .1 .0 in
     let m : length (li .last .0) ≡ length (fi .last .1 .1 .1 .0) = li .kept .0 in
@@ -88,19 +73,16 @@ returns c =
           ∙ rw (f .ensures .0) (part-cells h (g .result) (p .1) (g .ensures .1) a is) in
           let t : bitAt (li .last .0) ≡ full h a =
           li .ensures (fullSize (h - 1) 1) (full h a) (part-heaped h (g .result) (p .1) (g .ensures .1) a) (omega (arith, p .3)) w in
-          sq .ensures .1 ∙ ap wordsOf (ap (λ (x : ℕ → ℕ). squeezed x (16 * filled)) t ∙ full-groups h filled a (omega (arith, p .3))),
+          sq .ensures .1 ∙ ap wordsOf (ap (λ (x : ℕ → ℕ). compacted x (16 * filled)) t ∙ full-groups h filled a (omega (arith, p .3))),
     )
 
 pub pack-part-spec : {M : Type 1} → statement M
 pack-part-spec =
     tie.close
     (tie.spec
-    clear-requires
-    block-levels-requires
-    sub-full-size
-    full-size-requires
+    (λ c κs. search needs) (λ c κs. search needs) (λ c. search needs) (λ c κs. search needs)
     fill-requires
     lift-requires
-    squeeze-requires
-    same-length
+    compact-requires
+    (λ c. search needs)
     returns)

@@ -5,17 +5,8 @@ use Rattle.packing.proofs.WordLaws.{swap-law}
 use Rattle.packing.proofs.making.swap.Statement.{statement}
 use Rattle.packing.proofs.making.swap.Tie as tie
 
-shl-result : tie.Need-shl-result
-shl-result c = search needs
-
-shl-result-2 : tie.Need-shl-result-2
-shl-result-2 c = search needs
-
-shr-result : tie.Need-shr-result
-shr-result c = search needs
-
 returns : tie.Need-returns
 returns c = swap-law _ _ _ (omega arith) (omega arith) (c .pre .1)
 
 pub swap-spec : {M : Type 1} → statement M
-swap-spec = tie.close (tie.spec shl-result shl-result-2 shr-result returns)
+swap-spec = tie.close (tie.spec (λ c. search needs) (λ c. search needs) (λ c. search needs) returns)

@@ -30,12 +30,6 @@ mul-w-2 c = let p = c .before .before .pre (c .before .loop .k) (c .loop-test .t
 shared-slice-read-w : tie.Need-shared-slice-read-w Inv-loop μ-loop
 shared-slice-read-w c = c .before .before .before .pre (c .before .before .loop .k) (c .before .loop-test .taken)
 
-add-k : tie.Need-add-k Inv-loop μ-loop
-add-k c = omega arith
-
-loop-less : tie.Need-loop-less Inv-loop μ-loop
-loop-less c = omega arith
-
 loop-again : tie.Need-loop-again Inv-loop μ-loop
 loop-again c =
     let a = c .before .before .before .args in
@@ -59,7 +53,6 @@ together-spec =
     add-w
     mul-w-2
     shared-slice-read-w
-    add-k
-    loop-less
+    (λ c. omega arith) (λ c. omega arith)
     loop-again
     returns)

@@ -26,25 +26,10 @@ returns c =
     let a = c .before .before .args in
     (λ e. subst (WellFormed (a .n)) (sym (nil-of (a .tree .now) (c .if1 .taken))) (tree-none (a .n)), λ w. refl)
 
-tree-unit-requires : tie.Need-tree-unit-requires
-tree-unit-requires c κs = search needs
-
 returns-2 : tie.Need-returns-2
 returns-2 c =
     let n = c .before .before .before .before .args .n in
     (λ e. false-absurd e, λ w. absurd (let k = ap length (w .tree) in omega (arith, treeWords-most n (w .set))))
-
-slice-aggregate-load : tie.Need-slice-aggregate-load
-slice-aggregate-load c = search needs
-
-load-requires : tie.Need-load-requires
-load-requires c κs = search needs
-
-slice-aggregate-within : tie.Need-slice-aggregate-within
-slice-aggregate-within c = search needs
-
-within-requires : tie.Need-within-requires
-within-requires c κs = search needs
 
 returns-3 : tie.Need-returns-3
 returns-3 c =
@@ -53,21 +38,6 @@ returns-3 c =
       λ w. sym (not-true (x .result) (c .if3 .taken))
           ∙ x .ensures .1 (record { set = w .set; is-set = w .is-set; rows = loaded (c .before .before .before .before) w }),
     )
-
-slice-aggregate-pack : tie.Need-slice-aggregate-pack
-slice-aggregate-pack c = search needs
-
-slice-aggregate-pack-2 : tie.Need-slice-aggregate-pack-2
-slice-aggregate-pack-2 c = search needs
-
-pack-requires : tie.Need-pack-requires
-pack-requires c κs = search needs
-
-slice-aggregate-same : tie.Need-slice-aggregate-same
-slice-aggregate-same c = search needs
-
-same-requires : tie.Need-same-requires
-same-requires c κs = search needs
 
 returns-4 : tie.Need-returns-4
 returns-4 c =
@@ -86,16 +56,9 @@ well-formed-spec =
     tie.close
     (tie.spec
     returns
-    tree-unit-requires
+    (λ c κs. search needs)
     returns-2
-    slice-aggregate-load
-    load-requires
-    slice-aggregate-within
-    within-requires
+    (λ c. search needs) (λ c κs. search needs) (λ c. search needs) (λ c κs. search needs)
     returns-3
-    slice-aggregate-pack
-    slice-aggregate-pack-2
-    pack-requires
-    slice-aggregate-same
-    same-requires
+    (λ c. search needs) (λ c. search needs) (λ c κs. search needs) (λ c. search needs) (λ c κs. search needs)
     returns-4)

@@ -12,11 +12,11 @@ use Rattle.reader.proofs.sequence.Reads as sequence
 use Rattle.reader.proofs.part.Reads as part
 use Rattle.reader.proofs.comes_next.Reads as comes-next
 use Rattle.reader.proofs.ends_at.Reads as ends-at
-use Rattle.reader.proofs.joined.Reads as joined
+use Rattle.reader.proofs.combined.Reads as combined
 use Rattle.reader.proofs.+alternatives+atom+part+sequence.Lts-sequence as sequence-lts
 
 abbrev pub calls : ℕ → sequence-lts.Claims
-calls t = (part-below t, part.Post, comes-next.Asked, comes-next.Learnt, ends-at.Asked, ends-at.Learnt, joined.Asked, joined.Learnt)
+calls t = (part-below t, part.Post, comes-next.Asked, comes-next.Learnt, ends-at.Asked, ends-at.Learnt, combined.Asked, combined.Learnt)
 
 abbrev pub Inv-loop : sequence-lts.InvT-loop
 Inv-loop s at code₀ n first₀ code first = Looped of-parts s at n first₀ code₀ first code
@@ -68,8 +68,8 @@ module _ (t : ℕ) where
   pub part-requires-2 : sequence-lts.Need-part-requires-2 (calls t) (sequence-at t) sequence.Post Inv-loop μ-loop
   part-requires-2 c κs = let h = ahead (turn (c .before .before)) in (omega arith, asks-next (turn (c .before .before)))
 
-  pub joined-requires : sequence-lts.Need-joined-requires (calls t) (sequence-at t) sequence.Post Inv-loop μ-loop
-  joined-requires c κs =
+  pub combined-requires : sequence-lts.Need-combined-requires (calls t) (sequence-at t) sequence.Post Inv-loop μ-loop
+  combined-requires c κs =
       let next = c .before .before .before .part2 in
       room (turn (c .before .before .before .before .before .before)) (next .ensures) (next .kept .1 .1 .0)
 
@@ -77,13 +77,13 @@ module _ (t : ℕ) where
   loop-less c =
       let next = c .before .before .before .before .before .before .part2 in
       let this = c .before .before .before .before .before .before .before .before .before in
-      falls (turn this) (next .ensures) (next .kept .1 .1 .0) (c .before .before .joined .ensures)
+      falls (turn this) (next .ensures) (next .kept .1 .1 .0) (c .before .before .combined .ensures)
 
   pub loop-again : sequence-lts.Need-loop-again (calls t) (sequence-at t) sequence.Post Inv-loop μ-loop
   loop-again c =
       let next = c .before .before .before .before .before .before .part2 in
       let this = c .before .before .before .before .before .before .before .before .before in
-      let both = c .before .before .joined in
+      let both = c .before .before .combined in
       again (turn this) (next .ensures) (next .kept .1 .1 .0) (both .ensures) refl (both .kept .0)
 
   pub same-length : sequence-lts.Need-same-length (calls t) (sequence-at t) sequence.Post Inv-loop μ-loop

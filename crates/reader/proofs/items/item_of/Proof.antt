@@ -50,12 +50,6 @@ returns-6 c =
       lt-ltb _ _ (c .if6 .taken),
     )
 
-cast-t5 : tie.Need-cast-t5
-cast-t5 c = search needs
-
-cast-t8 : tie.Need-cast-t8
-cast-t8 c = search needs
-
 returns-7 : tie.Need-returns-7
 unfolding itemOf
 returns-7 c =
@@ -69,4 +63,4 @@ returns-7 c =
     )
 
 pub item-of-spec : {M : Type 1} → statement M
-item-of-spec = tie.close (tie.spec returns returns-2 returns-3 returns-4 returns-5 returns-6 cast-t5 cast-t8 returns-7)
+item-of-spec = tie.close (tie.spec returns returns-2 returns-3 returns-4 returns-5 returns-6 (λ c. search needs) (λ c. search needs) returns-7)

@@ -3,25 +3,17 @@ use mathlib.Core.Path.{sym, ap, _∙_}
 use mathlib.Core.Logic.{inl, inr}
 use native.Mathlib.Omega.{arith}
 use borrow.Author.Needs.{needs}
+use Rattle.k2.specs.DigitLaws.{one-shl-32}
 use Rattle.reader.specs.Progress.{labelAt}
-use Rattle.reader.proofs.SymbolLaws.{one-shl-32, label-letter, label-other}
+use Rattle.reader.proofs.SymbolLaws.{label-letter, label-other}
 use Rattle.reader.proofs.symbols.label_at.Statement.{statement}
 use Rattle.reader.proofs.symbols.label_at.Tie as tie
-
-peek-requires : tie.Need-peek-requires
-peek-requires c κs = search needs
 
 returns : tie.Need-returns
 returns c = sym (label-other (c .before .peek .result) (inl (c .if1 .taken))) ∙ ap labelAt (c .before .peek .ensures)
 
 returns-2 : tie.Need-returns-2
 returns-2 c = sym (label-other (c .before .before .peek .result) (inr (c .if2 .taken))) ∙ ap labelAt (c .before .before .peek .ensures)
-
-cast-result : tie.Need-cast-result
-cast-result c = search needs
-
-shl-result : tie.Need-shl-result
-shl-result c = search needs
 
 returns-3 : tie.Need-returns-3
 returns-3 c =
@@ -30,4 +22,4 @@ returns-3 c =
     ∙ ap labelAt (c .before .before .peek .ensures)
 
 pub label-at-spec : {M : Type 1} → statement M
-label-at-spec = tie.close (tie.spec peek-requires returns returns-2 cast-result shl-result returns-3)
+label-at-spec = tie.close (tie.spec (λ c κs. search needs) returns returns-2 (λ c. search needs) (λ c. search needs) returns-3)

@@ -5,22 +5,10 @@ use Rattle.reader.proofs.SymbolLaws.{hat-member, hat-none, plain-member
 use Rattle.reader.proofs.symbols.member.Statement.{statement}
 use Rattle.reader.proofs.symbols.member.Tie as tie
 
-peek-requires : tie.Need-peek-requires
-peek-requires c κs = search needs
-
-add-label-at : tie.Need-add-label-at
-add-label-at c = search needs
-
-label-at-requires : tie.Need-label-at-requires
-label-at-requires c κs = search needs
-
 returns : tie.Need-returns
 returns c =
     λ w M. hat-none M (sym (c .before .before .before .before .peek .ensures) ∙ c .before .before .before .if1 .taken)
     (sym (c .before .label-at .ensures) ∙ c .if2 .taken)
-
-add-t7 : tie.Need-add-t7
-add-t7 c = search needs
 
 returns-2 : tie.Need-returns-2
 returns-2 c =
@@ -29,15 +17,9 @@ returns-2 c =
     λ w M. hat-member M (sym (after-peek .peek .ensures) ∙ after-label-at .before .before .if1 .taken)
     (after-label-at .label-at .ensures) (c .before .before .if2 .left)
 
-label-at-requires-2 : tie.Need-label-at-requires-2
-label-at-requires-2 c κs = search needs
-
 returns-3 : tie.Need-returns-3
 returns-3 c =
     λ w M. plain-none M (λ e. c .before .before .if1 .left (c .before .before .before .peek .ensures ∙ e)) (sym (c .before .label-at2 .ensures) ∙ c .if3 .taken)
-
-add-t11 : tie.Need-add-t11
-add-t11 c = search needs
 
 returns-4 : tie.Need-returns-4
 returns-4 c =
@@ -48,13 +30,11 @@ pub member-spec : {M : Type 1} → statement M
 member-spec =
     tie.close
     (tie.spec
-    peek-requires
-    add-label-at
-    label-at-requires
+    (λ c κs. search needs) (λ c. search needs) (λ c κs. search needs)
     returns
-    add-t7
+    (λ c. search needs)
     returns-2
-    label-at-requires-2
+    (λ c κs. search needs)
     returns-3
-    add-t11
+    (λ c. search needs)
     returns-4)

@@ -14,12 +14,6 @@ use Rattle.reader.proofs.SymbolLaws.{marks-none, member-of, negated-set
 use Rattle.reader.proofs.symbols.negated.Statement.{statement}
 use Rattle.reader.proofs.symbols.negated.Tie as tie
 
-peek-requires : tie.Need-peek-requires
-peek-requires c κs = search needs
-
-add-set : tie.Need-add-set
-add-set c = search needs
-
 -- the ( stands inside the text
 is-open : (c : tie.Then1)
     → let start = c .before .before .before in
@@ -36,15 +30,6 @@ set-requires c κs = let h = inside c in omega arith
 
 returns : tie.Need-returns
 returns c = negated-set (is-open (c .before)) (c .set .ensures)
-
-member-requires : tie.Need-member-requires
-member-requires c κs = search needs
-
-enum-known-r : tie.Need-enum-known-r
-enum-known-r c = search needs
-
-enum-told : tie.Need-enum-told
-enum-told c = search needs
 
 -- no ( comes, and the member is the first
 not-open : (c : tie.Else1)
@@ -80,13 +65,10 @@ pub negated-spec : {M : Type 1} → statement M
 negated-spec =
     tie.close
     (tie.spec
-    peek-requires
-    add-set
+    (λ c κs. search needs) (λ c. search needs)
     set-requires
     returns
-    member-requires
-    enum-known-r
-    enum-told
+    (λ c κs. search needs) (λ c. search needs) (λ c. search needs)
     returns-2
     others-requires
     others-requires-2

@@ -7,11 +7,8 @@ use Rattle.reader.proofs.symbols.others.Tie as tie
 returns : tie.Need-returns
 returns c = rw (eq-eqb _ _ (c .if1 .taken))
 
-sub-result : tie.Need-sub-result
-sub-result c = search needs
-
 returns-2 : tie.Need-returns-2
 returns-2 c = rw (ne-eqb _ _ (c .if1 .left))
 
 pub others-spec : {M : Type 1} → statement M
-others-spec = tie.close (tie.spec returns sub-result returns-2)
+others-spec = tie.close (tie.spec returns (λ c. search needs) returns-2)

@@ -7,9 +7,6 @@ use Rattle.paths.specs.Descent.{firstByte}
 use Rattle.reader.proofs.symbols.peek.Statement.{statement}
 use Rattle.reader.proofs.symbols.peek.Tie as tie
 
-shared-slice-read-result : tie.Need-shared-slice-read-result
-shared-slice-read-result c = search needs
-
 returns : tie.Need-returns
 returns c = sym (ap firstByte (drop-cons (c .before .before .args .s .now) (c .before .before .args .at) 0 (c .before .if1 .taken)))
 
@@ -17,4 +14,4 @@ returns-2 : tie.Need-returns-2
 returns-2 c = sym (ap firstByte (drop-of-length-le (c .before .args .s .now) (c .if1 .left)))
 
 pub peek-spec : {M : Type 1} → statement M
-peek-spec = tie.close (tie.spec shared-slice-read-result returns returns-2)
+peek-spec = tie.close (tie.spec (λ c. search needs) returns returns-2)

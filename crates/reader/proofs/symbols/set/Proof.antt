@@ -26,12 +26,6 @@ loop-holds c = set-starts _ _ (c .before .pre)
 member-requires : tie.Need-member-requires Inv-loop μ-loop
 member-requires c κs = c .loop .inv .inside
 
-enum-known-r : tie.Need-enum-known-r Inv-loop μ-loop
-enum-known-r c = search needs
-
-enum-told : tie.Need-enum-told Inv-loop μ-loop
-enum-told c = search needs
-
 -- what `member` gives, for the members read so far
 given : (c : tie.After-member Inv-loop μ-loop)
     → MemberAt (c .before .before .before .args .s .now) (c .before .loop .before .at) (c .before .loop .inv .w) (c .member .result)
@@ -39,9 +33,6 @@ given c = c .member .ensures _ (c .before .loop .inv .marks)
 
 returns : tie.Need-returns Inv-loop μ-loop
 returns c = missing (set-fails (c .before .before .before .loop .inv) (c .enum-told .given .1) (given (c .before .before)))
-
-peek-requires : tie.Need-peek-requires Inv-loop μ-loop
-peek-requires c κs = search needs
 
 -- where the member ends, and that its sets are sets of labels
 reaches : (c : tie.After-r Inv-loop μ-loop)
@@ -119,10 +110,9 @@ set-spec =
     μ-loop
     loop-holds
     member-requires
-    enum-known-r
-    enum-told
+    (λ c. search needs) (λ c. search needs)
     returns
-    peek-requires
+    (λ c κs. search needs)
     add-t8
     others-requires
     others-requires-2

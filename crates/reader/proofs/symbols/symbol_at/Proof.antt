@@ -11,12 +11,6 @@ use Rattle.reader.proofs.SymbolLaws.{symbol-letter, symbol-none, symbol
 use Rattle.reader.proofs.symbols.symbol_at.Statement.{statement}
 use Rattle.reader.proofs.symbols.symbol_at.Tie as tie
 
-peek-requires : tie.Need-peek-requires
-peek-requires c κs = search needs
-
-add-negated : tie.Need-add-negated
-add-negated c = search needs
-
 -- the ! stands inside the text
 is-bang : (c : tie.Then1)
     → let start = c .before .before .before in
@@ -34,18 +28,14 @@ negated-requires c κs = let h = inside c in omega arith
 returns : tie.Need-returns
 returns c = λ n. symbol-negated (is-bang (c .before)) (c .negated .ensures)
 
-label-at-requires : tie.Need-label-at-requires
-label-at-requires c κs = search needs
-
 returns-2 : tie.Need-returns-2
 returns-2 c =
     λ n. symbol-none n (λ e. c .before .before .if1 .left (c .before .before .before .peek .ensures ∙ e)) (sym (c .before .label-at .ensures) ∙ c .if2 .taken)
-
-add-t7 : tie.Need-add-t7
-add-t7 c = search needs
 
 returns-3 : tie.Need-returns-3
 returns-3 c = λ n. symbol-letter (c .before .label-at .ensures) (c .if2 .left)
 
 pub symbol-at-spec : {M : Type 1} → statement M
-symbol-at-spec = tie.close (tie.spec peek-requires add-negated negated-requires returns label-at-requires returns-2 add-t7 returns-3)
+symbol-at-spec = tie.close
+    (tie.spec
+    (λ c κs. search needs) (λ c. search needs) negated-requires returns (λ c κs. search needs) returns-2 (λ c. search needs) returns-3)

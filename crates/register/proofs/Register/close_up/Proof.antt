@@ -15,22 +15,10 @@ use Rattle.register.proofs.ClosingLaws.{ranked-small, links-closed, clo
 use Rattle.register.proofs.Register.close_up.Statement.{statement}
 use Rattle.register.proofs.Register.close_up.Tie as tie
 
-ranged-requires : tie.Need-ranged-requires
-ranged-requires c κs = search needs
-
 returns : tie.Need-returns
 returns c =
     let start = c .before .before .before in
     closes-foreign (start .args .t1) (start .args .numbers .now) (outside (start .args .t1) _ (c .before .ranged .ensures) (c .if1 .taken))
-
-cast-n : tie.Need-cast-n
-cast-n c = search needs
-
-ranks-requires : tie.Need-ranks-requires
-ranks-requires c κs = search needs
-
-mul-left : tie.Need-mul-left
-mul-left c = search needs
 
 in-range : (c : tie.Else1) → InRange (c .before .before .before .args .t1)
 in-range c = inside (c .before .before .before .args .t1) (c .before .ranged .result) (c .before .ranged .ensures) (c .if1 .left)
@@ -77,21 +65,12 @@ returns-3 c =
     closes-refused (start .args .t1) 12 (start .args .numbers .now) (in-range else1)
     (short-list, refl) (λ b h. close-short h _ (some (c .before)) (c .if3 .taken))
 
-slice-aggregate-tell : tie.Need-slice-aggregate-tell
-slice-aggregate-tell c = search needs
-
 tell-requires : tie.Need-tell-requires
 tell-requires c κs =
     let else3 = c .before .before .before .before .before in
     let else1 = else3 .before .before .before .before .before .before in
     let start = else1 .before .before .before in
     (marks-long start, else3 .before .before .ranks .ensures, omega arith, in-range else1 .size, else3 .if3 .left)
-
-slice-aggregate-rename : tie.Need-slice-aggregate-rename
-slice-aggregate-rename c = search needs
-
-slice-aggregate-rename-2 : tie.Need-slice-aggregate-rename-2
-slice-aggregate-rename-2 c = search needs
 
 rename-requires : tie.Need-rename-requires
 rename-requires c κs =
@@ -108,9 +87,6 @@ cast-t9 c =
     let start = else1 .before .before .before in
     omega (arith, left-is after-ranks, rank-le (inUse (start .args .t1 .marks)) (start .args .t1 .n), in-range else1 .size)
 
-slice-aggregate-moved : tie.Need-slice-aggregate-moved
-slice-aggregate-moved c = search needs
-
 moved-requires : tie.Need-moved-requires
 moved-requires c κs =
     let earlier = c .before .before .before .before .before .before .before .before .before in
@@ -118,9 +94,6 @@ moved-requires c κs =
     let else1 = after-ranks .before .before .before .before in
     let start = else1 .before .before .before in
     (omega (arith, marks-long start, in-range else1 .size), in-range else1 .size, ranks-small after-ranks)
-
-same-length : tie.Need-same-length
-same-length c = search needs
 
 returns-4 : tie.Need-returns-4
 returns-4 c =
@@ -150,21 +123,18 @@ pub close-up-spec : {M : Type 1} → statement M
 close-up-spec =
     tie.close
     (tie.spec
-    ranged-requires
+    (λ c κs. search needs)
     returns
-    cast-n
-    ranks-requires
-    mul-left
+    (λ c. search needs) (λ c κs. search needs) (λ c. search needs)
     array-read-left
     returns-2
     returns-3
-    slice-aggregate-tell
+    (λ c. search needs)
     tell-requires
-    slice-aggregate-rename
-    slice-aggregate-rename-2
+    (λ c. search needs) (λ c. search needs)
     rename-requires
     cast-t9
-    slice-aggregate-moved
+    (λ c. search needs)
     moved-requires
-    same-length
+    (λ c. search needs)
     returns-4)

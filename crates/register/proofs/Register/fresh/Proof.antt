@@ -7,23 +7,14 @@ use Rattle.register.proofs.StepLaws.{opens, not-opens}
 use Rattle.register.proofs.Register.fresh.Statement.{statement}
 use Rattle.register.proofs.Register.fresh.Tie as tie
 
-empty-requires : tie.Need-empty-requires
-empty-requires c κs = search needs
-
 returns : tie.Need-returns
 unfolding freshAnswer firstNumber number
 returns c = not-opens (c .before .before .args .n) (rw (lt-ltb _ 1 (c .before .if1 .taken))) (c .empty .ensures)
-
-empty-requires-2 : tie.Need-empty-requires-2
-empty-requires-2 c κs = search needs
 
 returns-2 : tie.Need-returns-2
 unfolding freshAnswer firstNumber number
 returns-2 c =
     not-opens (c .before .before .before .args .n) (rw (le-ltb _ 1 (c .before .before .if1 .left), lt-ltb 1024 _ (c .before .if2 .taken))) (c .empty2 .ensures)
-
-empty-requires-3 : tie.Need-empty-requires-3
-empty-requires-3 c κs = search needs
 
 returns-3 : tie.Need-returns-3
 unfolding freshAnswer firstNumber number
@@ -33,4 +24,4 @@ returns-3 c =
 pub fresh-spec : {M : Type 1} → statement M
 fresh-spec =
     tie.close
-    (tie.spec empty-requires returns empty-requires-2 returns-2 empty-requires-3 returns-3)
+    (tie.spec (λ c κs. search needs) returns (λ c κs. search needs) returns-2 (λ c κs. search needs) returns-3)

@@ -12,9 +12,6 @@ use Rattle.register.proofs.StepLaws.{outside, inside}
 use Rattle.register.proofs.Register.is_locked.Statement.{statement}
 use Rattle.register.proofs.Register.is_locked.Tie as tie
 
-ranged-requires : tie.Need-ranged-requires
-ranged-requires c κs = search needs
-
 returns : tie.Need-returns
 returns c =
     let none = outside (c .before .before .args .t1) _ (c .before .ranged .ensures) (c .if1 .taken) in
@@ -33,15 +30,9 @@ returns-2 c =
     let none = List·getD-eq-default (a .t1 .marks) freeMark {n = a .«record»} (omega (arith, long start)) in
     record { foreign = λ _. refl; locked = λ b h. ap (λ (m : ℕ). eqb m lockMark) (sym none) ∙ shows-locked (h .sheet) _ }
 
-mul-result : tie.Need-mul-result
-mul-result c = search needs
-
-element-copy-out-result : tie.Need-element-copy-out-result
-element-copy-out-result c = search needs
-
 returns-3 : tie.Need-returns-3
 returns-3 c = record { foreign = λ o. absurd (o (in-range (c .before .before))); locked = λ b h. shows-locked (h .sheet) _ }
 
 pub is-locked-spec : {M : Type 1} → statement M
 is-locked-spec =
-    tie.close (tie.spec ranged-requires returns returns-2 mul-result element-copy-out-result returns-3)
+    tie.close (tie.spec (λ c κs. search needs) returns returns-2 (λ c. search needs) (λ c. search needs) returns-3)

@@ -6,9 +6,6 @@ use Rattle.register.proofs.StepLaws.{outside, inside}
 use Rattle.register.proofs.Register.links.Statement.{statement}
 use Rattle.register.proofs.Register.links.Tie as tie
 
-ranged-requires : tie.Need-ranged-requires
-ranged-requires c κs = search needs
-
 returns : tie.Need-returns
 returns c =
     let none = outside (c .before .before .before .args .self) _ (c .before .ranged .ensures) (c .if1 .taken) in
@@ -20,4 +17,4 @@ returns-2 c =
     record { few = made .count; long = search needs; foreign = λ o. absurd (o made); linked = λ b h. h .sheet .links }
 
 pub links-spec : {M : Type 1} → statement M
-links-spec = tie.close (tie.spec ranged-requires returns returns-2)
+links-spec = tie.close (tie.spec (λ c κs. search needs) returns returns-2)

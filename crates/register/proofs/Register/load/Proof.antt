@@ -14,76 +14,22 @@ use Rattle.register.proofs.Register.load.Tie as tie
 made : (c : tie.Else1) → Formed (c .before .before .before .args .words .now)
 made c = keeps-formed _ (c .before .is-register .ensures .sure (not-false _ (c .if1 .left)))
 
-is-register-requires : tie.Need-is-register-requires
-is-register-requires c κs = search needs
-
-empty-requires : tie.Need-empty-requires
-empty-requires c κs = search needs
-
 returns : tie.Need-returns
 returns c =
     load-refused (c .before .before .before .before .args .words .now) _
     (c .before .before .is-register .ensures) (not-true _ (c .before .if1 .taken)) (c .empty .ensures)
 
-sub-copy : tie.Need-sub-copy
-sub-copy c = search needs
-
-part-copy-start : tie.Need-part-copy-start
-part-copy-start c = search needs
-
 part-copy-end : tie.Need-part-copy-end
 part-copy-end c = omega (arith, made (c) .long)
-
-slice-aggregate-copy : tie.Need-slice-aggregate-copy
-slice-aggregate-copy c = search needs
-
-copy-requires : tie.Need-copy-requires
-copy-requires c κs = search needs
-
-sub-copy-2 : tie.Need-sub-copy-2
-sub-copy-2 c = search needs
-
-part-copy-start-2 : tie.Need-part-copy-start-2
-part-copy-start-2 c = search needs
 
 part-copy-end-2 : tie.Need-part-copy-end-2
 part-copy-end-2 c = omega (arith, made (c .before .before .before .before) .long)
 
-slice-aggregate-copy-2 : tie.Need-slice-aggregate-copy-2
-slice-aggregate-copy-2 c = search needs
-
-copy-requires-2 : tie.Need-copy-requires-2
-copy-requires-2 c κs = search needs
-
-sub-copy-3 : tie.Need-sub-copy-3
-sub-copy-3 c = search needs
-
-part-copy-start-3 : tie.Need-part-copy-start-3
-part-copy-start-3 c = search needs
-
 part-copy-end-3 : tie.Need-part-copy-end-3
 part-copy-end-3 c = omega (arith, made (c .before .before .before .before .before .before .before .before) .long)
 
-slice-aggregate-copy-3 : tie.Need-slice-aggregate-copy-3
-slice-aggregate-copy-3 c = search needs
-
-copy-requires-3 : tie.Need-copy-requires-3
-copy-requires-3 c κs = search needs
-
-sub-copy-4 : tie.Need-sub-copy-4
-sub-copy-4 c = search needs
-
-part-copy-start-4 : tie.Need-part-copy-start-4
-part-copy-start-4 c = search needs
-
 part-copy-end-4 : tie.Need-part-copy-end-4
 part-copy-end-4 c = omega (arith, made (c .before .before .before .before .before .before .before .before .before .before .before .before) .long)
-
-slice-aggregate-copy-4 : tie.Need-slice-aggregate-copy-4
-slice-aggregate-copy-4 c = search needs
-
-copy-requires-4 : tie.Need-copy-requires-4
-copy-requires-4 c κs = search needs
 
 shared-slice-read-t32 : tie.Need-shared-slice-read-t32
 shared-slice-read-t32 c =
@@ -178,29 +124,17 @@ pub load-spec : {M : Type 1} → statement M
 load-spec =
     tie.close
     (tie.spec
-    is-register-requires
-    empty-requires
+    (λ c κs. search needs) (λ c κs. search needs)
     returns
-    sub-copy
-    part-copy-start
+    (λ c. search needs) (λ c. search needs)
     part-copy-end
-    slice-aggregate-copy
-    copy-requires
-    sub-copy-2
-    part-copy-start-2
+    (λ c. search needs) (λ c κs. search needs) (λ c. search needs) (λ c. search needs)
     part-copy-end-2
-    slice-aggregate-copy-2
-    copy-requires-2
-    sub-copy-3
-    part-copy-start-3
+    (λ c. search needs) (λ c κs. search needs) (λ c. search needs) (λ c. search needs)
     part-copy-end-3
-    slice-aggregate-copy-3
-    copy-requires-3
-    sub-copy-4
-    part-copy-start-4
+    (λ c. search needs) (λ c κs. search needs) (λ c. search needs) (λ c. search needs)
     part-copy-end-4
-    slice-aggregate-copy-4
-    copy-requires-4
+    (λ c. search needs) (λ c κs. search needs)
     shared-slice-read-t32
     cast-t33
     shared-slice-read-t35

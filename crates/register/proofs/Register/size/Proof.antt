@@ -6,16 +6,10 @@ use Rattle.register.proofs.StepLaws.{outside, inside}
 use Rattle.register.proofs.Register.size.Statement.{statement}
 use Rattle.register.proofs.Register.size.Tie as tie
 
-ranged-requires : tie.Need-ranged-requires
-ranged-requires c κs = search needs
-
 returns : tie.Need-returns
 returns c =
     let none = outside (c .before .before .args .self) _ (c .before .ranged .ensures) (c .if1 .taken) in
     record { small = omega arith; foreign = λ _. refl; size = λ b h. absurd (none (h .ranged)) }
-
-cast-result : tie.Need-cast-result
-cast-result c = search needs
 
 returns-2 : tie.Need-returns-2
 returns-2 c =
@@ -23,4 +17,4 @@ returns-2 c =
     record { small = made .size; foreign = λ o. absurd (o made); size = λ b h. h .size }
 
 pub size-spec : {M : Type 1} → statement M
-size-spec = tie.close (tie.spec ranged-requires returns cast-result returns-2)
+size-spec = tie.close (tie.spec (λ c κs. search needs) returns (λ c. search needs) returns-2)

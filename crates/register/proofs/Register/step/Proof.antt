@@ -8,12 +8,10 @@ use borrow.Author.Tests.{eq-eqb, ne-eqb}
 use Rattle.book.specs.Causes.{number}
 use Rattle.register.specs.History.{wordCall}
 use Rattle.register.specs.EntryLaws.{entry-call, entry-none}
+use Rattle.register.specs.DraftLaws.{draft-kind}
 use Rattle.register.proofs.ReplayLaws.{entry-closes, called, uncalled}
 use Rattle.register.proofs.Register.step.Statement.{statement}
 use Rattle.register.proofs.Register.step.Tie as tie
-
-room-for-requires : tie.Need-room-for-requires
-room-for-requires c κs = search needs
 
 slice-relend-prefix-close-up : tie.Need-slice-relend-prefix-close-up
 slice-relend-prefix-close-up c = c .room-for .ensures .within
@@ -21,12 +19,6 @@ slice-relend-prefix-close-up c = c .room-for .ensures .within
 slice-aggregate-close-up : tie.Need-slice-aggregate-close-up
 slice-aggregate-close-up c =
     sym (length-take-le (c .before .room-for .result) (c .before .before .before .before .args .numbers .now) (c .before .room-for .ensures .within))
-
-close-up-requires : tie.Need-close-up-requires
-close-up-requires c κs = search needs
-
-same-length : tie.Need-same-length
-same-length c = search needs
 
 returns : tie.Need-returns
 unfolding wordCall
@@ -39,53 +31,27 @@ returns c =
     (entry-closes (a .self) (a .word % 1099511627776) (m .result) (a .numbers .now) (o .last .1 .0) (o .result) (m .ensures)
     (k ∙ length-take-le (m .result) (a .numbers .now) (m .ensures .within)) (o .ensures))
 
-cast-from : tie.Need-cast-from
-cast-from c = search needs
-
-cast-label : tie.Need-cast-label
-cast-label c = search needs
-
-cast-to : tie.Need-cast-to
-cast-to c = search needs
-
-entry-of-requires : tie.Need-entry-of-requires
-entry-of-requires c κs = search needs
-
-enum-known-entry : tie.Need-enum-known-entry
-enum-known-entry c = search needs
-
-apply-requires : tie.Need-apply-requires
-apply-requires c κs = search needs
-
-enum-told : tie.Need-enum-told
-enum-told c = search needs
-
 returns-2 : tie.Need-returns-2
 unfolding wordCall
 returns-2 c =
     rw (ne-eqb _ _ (c .before .before .before .before .before .if1 .left))
-    (called _ _ _ _ (entry-call (c .before .before .before .before .entry-of .ensures) (c .before .before .entry .given .1)) (c .apply .ensures))
+    (called _ _ _ _ (entry-call (c .before .before .before .before .entry-at .ensures ∙ draft-kind _) (c .before .before .entry .given .1)) (c .apply .ensures))
 
 returns-3 : tie.Need-returns-3
 unfolding wordCall number
-returns-3 c = rw (ne-eqb _ _ (c .before .before .before .if1 .left)) (uncalled _ _ (entry-none (c .before .before .entry-of .ensures) (c .enum-told .given .1)))
+returns-3 c =
+    rw (ne-eqb _ _ (c .before .before .before .if1 .left))
+    (uncalled _ _ (entry-none (c .before .before .entry-at .ensures ∙ draft-kind _) (c .enum-told .given .1)))
 
 pub step-spec : {M : Type 1} → statement M
 step-spec =
     tie.close
     (tie.spec
-    room-for-requires
+    (λ c κs. search needs)
     slice-relend-prefix-close-up
     slice-aggregate-close-up
-    close-up-requires
-    same-length
+    (λ c κs. search needs) (λ c. search needs)
     returns
-    cast-from
-    cast-label
-    cast-to
-    entry-of-requires
-    enum-known-entry
-    apply-requires
-    enum-told
+    (λ c κs. search needs) (λ c. search needs) (λ c κs. search needs) (λ c. search needs)
     returns-2
     returns-3)

@@ -33,23 +33,11 @@ totals-long c = search needs
 returns : tie.Need-returns
 returns c = store-refused _ _ (λ l _ _. omega (arith, c .if1 .taken))
 
-ranged-requires : tie.Need-ranged-requires
-ranged-requires c κs = search needs
-
 returns-2 : tie.Need-returns-2
 returns-2 c = store-refused _ _ (λ _ g _. outside (c .before .before .before .before .args .t1) _ (c .before .ranged .ensures) (c .if2 .taken) g)
 
-slice-aggregate-marked : tie.Need-slice-aggregate-marked
-slice-aggregate-marked c = search needs
-
-marked-requires : tie.Need-marked-requires
-marked-requires c κs = search needs
-
 returns-3 : tie.Need-returns-3
 returns-3 c = store-refused _ _ (λ _ _ m. c .before .marked .ensures .none (not-true _ (c .if3 .taken)) m)
-
-cast-t15 : tie.Need-cast-t15
-cast-t15 c = search needs
 
 cast-t16 : tie.Need-cast-t16
 cast-t16 c = omega (arith, in-range (c .before .before .before .before) .count)
@@ -60,31 +48,10 @@ cast-t17 c = omega (arith, in-range (c .before .before .before .before) .top)
 cast-t18 : tie.Need-cast-t18
 cast-t18 c = omega (arith, in-range (c .before .before .before .before) .held)
 
-slice-aggregate-copy : tie.Need-slice-aggregate-copy
-slice-aggregate-copy c = search needs
-
-copy-requires : tie.Need-copy-requires
-copy-requires c κs = search needs
-
-copy-requires-2 : tie.Need-copy-requires-2
-copy-requires-2 c κs = search needs
-
-copy-requires-3 : tie.Need-copy-requires-3
-copy-requires-3 c κs = search needs
-
 slice-aggregate-copy-2 : tie.Need-slice-aggregate-copy-2
 slice-aggregate-copy-2 c =
     let earlier = c .before .before .before .before .before .before .before .before .before .before .before .before .before .before in
     sym (marks-long (earlier .before .before .before .before .before .before .before .before .before .before .before .before .before .before))
-
-copy-requires-4 : tie.Need-copy-requires-4
-copy-requires-4 c κs = search needs
-
-copy-requires-5 : tie.Need-copy-requires-5
-copy-requires-5 c κs = search needs
-
-same-length : tie.Need-same-length
-same-length c = search needs
 
 returns-4 : tie.Need-returns-4
 returns-4 c =
@@ -125,21 +92,15 @@ store-spec =
     tie.close
     (tie.spec
     returns
-    ranged-requires
+    (λ c κs. search needs)
     returns-2
-    slice-aggregate-marked
-    marked-requires
+    (λ c. search needs) (λ c κs. search needs)
     returns-3
-    cast-t15
+    (λ c. search needs)
     cast-t16
     cast-t17
     cast-t18
-    slice-aggregate-copy
-    copy-requires
-    copy-requires-2
-    copy-requires-3
+    (λ c. search needs) (λ c κs. search needs) (λ c κs. search needs) (λ c κs. search needs)
     slice-aggregate-copy-2
-    copy-requires-4
-    copy-requires-5
-    same-length
+    (λ c κs. search needs) (λ c κs. search needs) (λ c. search needs)
     returns-4)

@@ -9,9 +9,6 @@ use Rattle.register.proofs.TotalLaws.{totals-refused, totals-given}
 use Rattle.register.proofs.Register.total.Statement.{statement}
 use Rattle.register.proofs.Register.total.Tie as tie
 
-ranged-requires : tie.Need-ranged-requires
-ranged-requires c κs = search needs
-
 returns : tie.Need-returns
 unfolding number
 returns c =
@@ -25,18 +22,9 @@ returns-2 : tie.Need-returns-2
 unfolding number
 returns-2 c = totals-refused _ _ (in-range (c .before)) (c .if2 .taken)
 
-mul-kept : tie.Need-mul-kept
-mul-kept c = search needs
-
-element-copy-out-kept : tie.Need-element-copy-out-kept
-element-copy-out-kept c = search needs
-
-cast-t9 : tie.Need-cast-t9
-cast-t9 c = search needs
-
 returns-3 : tie.Need-returns-3
 returns-3 c = totals-given _ _ (in-range (c .before .before)) (c .before .if2 .left) refl
 
 pub total-spec : {M : Type 1} → statement M
 total-spec =
-    tie.close (tie.spec ranged-requires returns returns-2 mul-kept element-copy-out-kept cast-t9 returns-3)
+    tie.close (tie.spec (λ c κs. search needs) returns returns-2 (λ c. search needs) (λ c. search needs) (λ c. search needs) returns-3)

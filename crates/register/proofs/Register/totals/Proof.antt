@@ -8,9 +8,6 @@ use Rattle.register.proofs.StepLaws.{outside, inside}
 use Rattle.register.proofs.Register.totals.Statement.{statement}
 use Rattle.register.proofs.Register.totals.Tie as tie
 
-ranged-requires : tie.Need-ranged-requires
-ranged-requires c κs = search needs
-
 returns : tie.Need-returns
 returns c =
     let none = outside (c .before .before .args .self) _ (c .before .ranged .ensures) (c .if1 .taken) in
@@ -22,4 +19,4 @@ returns-2 c =
     record { long = search needs; foreign = λ o. absurd (o made); totals = λ b h. h .totals }
 
 pub totals-spec : {M : Type 1} → statement M
-totals-spec = tie.close (tie.spec ranged-requires returns returns-2)
+totals-spec = tie.close (tie.spec (λ c κs. search needs) returns returns-2)

@@ -10,17 +10,11 @@ use Rattle.register.proofs.WithoutLaws.{without-represents}
 use Rattle.register.proofs.Register.without.Statement.{statement}
 use Rattle.register.proofs.Register.without.Tie as tie
 
-ranged-requires : tie.Need-ranged-requires
-ranged-requires c κs = search needs
-
 returns : tie.Need-returns
 returns c =
     let a = c .before .before .args in
     let none = outside (a .self) (c .before .ranged .result) (c .before .ranged .ensures) (c .if1 .taken) in
     record { foreign = λ _. refl; marks = refl; book = λ b h. absurd (none (h .ranged)) }
-
-slice-aggregate-keep-apart : tie.Need-slice-aggregate-keep-apart
-slice-aggregate-keep-apart c = search needs
 
 in-range : (c : tie.Else1) → InRange (c .before .before .args .self)
 in-range c = inside (c .before .before .args .self) (c .before .ranged .result) (c .before .ranged .ensures) (c .if1 .left)
@@ -48,4 +42,4 @@ returns-2 c =
 pub without-spec : {M : Type 1} → statement M
 without-spec =
     tie.close
-    (tie.spec ranged-requires returns slice-aggregate-keep-apart keep-apart-requires returns-2)
+    (tie.spec (λ c κs. search needs) returns (λ c. search needs) keep-apart-requires returns-2)

@@ -29,15 +29,6 @@ none y = go (decLt y 1024)
 loop-holds : tie.Need-loop-holds Inv-loop μ-loop
 loop-holds c = (omega arith, refl, moved-none (c .args .marks .now) (c .args .ranks .now) (replicate 1024 0) none)
 
-mul-if1 : tie.Need-mul-if1 Inv-loop μ-loop
-mul-if1 c = omega arith
-
-shared-slice-read-if1 : tie.Need-shared-slice-read-if1 Inv-loop μ-loop
-shared-slice-read-if1 c = omega arith
-
-mul-moved : tie.Need-mul-moved Inv-loop μ-loop
-mul-moved c = omega arith
-
 -- the rank of a record is below 1,024
 small : (c : tie.After-shared-slice-known2 Inv-loop μ-loop)
     → getD (c .before .before .before .before .before .args .ranks .now) (c .before .before .before .before .loop .i) 0 < 1024
@@ -54,12 +45,6 @@ mul-moved-2 c = omega (arith, small c)
 
 array-write-moved : tie.Need-array-write-moved Inv-loop μ-loop
 array-write-moved c = small c
-
-add-i : tie.Need-add-i Inv-loop μ-loop
-add-i c = omega arith
-
-loop-less : tie.Need-loop-less Inv-loop μ-loop
-loop-less c = omega arith
 
 loop-again : tie.Need-loop-again Inv-loop μ-loop
 loop-again c =
@@ -97,14 +82,11 @@ moved-spec =
     Inv-loop
     μ-loop
     loop-holds
-    mul-if1
-    shared-slice-read-if1
-    mul-moved
+    (λ c. omega arith) (λ c. omega arith) (λ c. omega arith)
     shared-slice-read-moved
     cast-moved
     mul-moved-2
     array-write-moved
-    add-i
-    loop-less
+    (λ c. omega arith) (λ c. omega arith)
     loop-again
     returns)

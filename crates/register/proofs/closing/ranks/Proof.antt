@@ -21,18 +21,6 @@ loop-holds : tie.Need-loop-holds Inv-loop μ-loop
 unfolding rank
 loop-holds c = (omega arith, refl, λ x h. let e : x ≡ 0 = omega arith in ap (newOf (replicate 1025 0)) e ∙ ap (rank (inUse (c .args .marks .now))) (sym e))
 
-mul-next : tie.Need-mul-next Inv-loop μ-loop
-mul-next c = omega arith
-
-array-read-next : tie.Need-array-read-next Inv-loop μ-loop
-array-read-next c = omega arith
-
-mul-if1 : tie.Need-mul-if1 Inv-loop μ-loop
-mul-if1 c = omega arith
-
-shared-slice-read-if1 : tie.Need-shared-slice-read-if1 Inv-loop μ-loop
-shared-slice-read-if1 c = omega arith
-
 add-next : tie.Need-add-next Inv-loop μ-loop
 add-next c =
     let at-loop = c .before .before .before in
@@ -42,21 +30,6 @@ add-next c =
       at-loop .loop .inv .2 (at-loop .loop .i) (omega arith),
       rank-le (inUse (at-loop .before .args .marks .now)) (at-loop .loop .i),
     )
-
-add-ranks : tie.Need-add-ranks Inv-loop μ-loop
-add-ranks c = omega arith
-
-mul-ranks : tie.Need-mul-ranks Inv-loop μ-loop
-mul-ranks c = omega arith
-
-array-write-ranks : tie.Need-array-write-ranks Inv-loop μ-loop
-array-write-ranks c = omega arith
-
-add-i : tie.Need-add-i Inv-loop μ-loop
-add-i c = omega arith
-
-loop-less : tie.Need-loop-less Inv-loop μ-loop
-loop-less c = omega arith
 
 loop-again : tie.Need-loop-again Inv-loop μ-loop
 loop-again c =
@@ -81,15 +54,8 @@ ranks-spec =
     Inv-loop
     μ-loop
     loop-holds
-    mul-next
-    array-read-next
-    mul-if1
-    shared-slice-read-if1
+    (λ c. omega arith) (λ c. omega arith) (λ c. omega arith) (λ c. omega arith)
     add-next
-    add-ranks
-    mul-ranks
-    array-write-ranks
-    add-i
-    loop-less
+    (λ c. omega arith) (λ c. omega arith) (λ c. omega arith) (λ c. omega arith) (λ c. omega arith)
     loop-again
     returns)

@@ -20,26 +20,8 @@ abbrev μ-loop : tie.MeasureT-loop
 loop-holds : tie.Need-loop-holds Inv-loop μ-loop
 loop-holds c = (omega arith, refl, refl)
 
-mul-renamed : tie.Need-mul-renamed Inv-loop μ-loop
-mul-renamed c = omega arith
-
-slice-read-renamed : tie.Need-slice-read-renamed Inv-loop μ-loop
-slice-read-renamed c = omega arith
-
 renamed-requires : tie.Need-renamed-requires Inv-loop μ-loop
 renamed-requires c κs = c .before .before .before .before .before .pre .1
-
-mul-words : tie.Need-mul-words Inv-loop μ-loop
-mul-words c = omega arith
-
-slice-write-words : tie.Need-slice-write-words Inv-loop μ-loop
-slice-write-words c = omega arith
-
-add-i : tie.Need-add-i Inv-loop μ-loop
-add-i c = omega arith
-
-loop-less : tie.Need-loop-less Inv-loop μ-loop
-loop-less c = omega arith
 
 loop-again : tie.Need-loop-again Inv-loop μ-loop
 loop-again c =
@@ -70,13 +52,9 @@ rename-spec =
     Inv-loop
     μ-loop
     loop-holds
-    mul-renamed
-    slice-read-renamed
+    (λ c. omega arith) (λ c. omega arith)
     renamed-requires
-    mul-words
-    slice-write-words
-    add-i
-    loop-less
+    (λ c. omega arith) (λ c. omega arith) (λ c. omega arith) (λ c. omega arith)
     loop-again
     same-length
     returns)

@@ -6,36 +6,6 @@ use borrow.Author.Needs.{needs}
 use Rattle.register.proofs.closing.renamed.Statement.{statement}
 use Rattle.register.proofs.closing.renamed.Tie as tie
 
-from-of-requires : tie.Need-from-of-requires
-from-of-requires c κs = search needs
-
-cast-from : tie.Need-cast-from
-cast-from c = search needs
-
-mul-from : tie.Need-mul-from
-mul-from c = search needs
-
-shared-slice-read-from : tie.Need-shared-slice-read-from
-shared-slice-read-from c = search needs
-
-to-of-requires : tie.Need-to-of-requires
-to-of-requires c κs = search needs
-
-cast-to : tie.Need-cast-to
-cast-to c = search needs
-
-mul-to : tie.Need-mul-to
-mul-to c = search needs
-
-shared-slice-read-to : tie.Need-shared-slice-read-to
-shared-slice-read-to c = search needs
-
-label-of-requires : tie.Need-label-of-requires
-label-of-requires c κs = search needs
-
-mul-result : tie.Need-mul-result
-mul-result c = search needs
-
 -- the ranks read are below 1,024
 from-small : (c : tie.After-from-of) → getD (c .before .before .args .ranks .now) (c .from-of .result) 0 < 1024
 from-small c = c .before .before .pre .below (c .from-of .result) (omega (arith, c .from-of .ensures))
@@ -60,16 +30,8 @@ pub renamed-spec : {M : Type 1} → statement M
 renamed-spec =
     tie.close
     (tie.spec
-    from-of-requires
-    cast-from
-    mul-from
-    shared-slice-read-from
-    to-of-requires
-    cast-to
-    mul-to
-    shared-slice-read-to
-    label-of-requires
-    mul-result
+    (λ c κs. search needs) (λ c. search needs) (λ c. search needs) (λ c. search needs) (λ c κs. search needs) (λ c. search needs) (λ c. search needs)
+    (λ c. search needs) (λ c κs. search needs) (λ c. search needs)
     add-result
     mul-result-2
     add-result-2

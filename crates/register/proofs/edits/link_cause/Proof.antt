@@ -18,12 +18,6 @@ returns-2 : tie.Need-returns-2
 unfolding linkCauses firstNumber number
 returns-2 c = rw (lt-leb _ _ (c .before .if1 .left), le-leb _ _ (c .if2 .taken))
 
-mul-if3 : tie.Need-mul-if3
-mul-if3 c = search needs
-
-shared-slice-read-if3 : tie.Need-shared-slice-read-if3
-shared-slice-read-if3 c = search needs
-
 -- the ends are records, from here on
 records : (c : tie.Else2) → (leb (c .before .before .args .n) (c .before .before .args .from) ≡ false)
     × (leb (c .before .before .args .n) (c .before .before .args .to) ≡ false)
@@ -32,12 +26,6 @@ records c = (lt-leb _ _ (c .before .if1 .left), lt-leb _ _ (c .if2 .left))
 returns-3 : tie.Need-returns-3
 unfolding linkCauses firstNumber number
 returns-3 c = rw (records (c .before .before) .0, records (c .before .before) .1, eq-eqb _ _ (c .if3 .taken))
-
-mul-if4 : tie.Need-mul-if4
-mul-if4 c = search needs
-
-shared-slice-read-if4 : tie.Need-shared-slice-read-if4
-shared-slice-read-if4 c = search needs
 
 returns-4 : tie.Need-returns-4
 unfolding linkCauses firstNumber number
@@ -57,24 +45,12 @@ returns-5 c =
     let else2 = c .before .before .before .before .before in
     rw (records else2 .0, records else2 .1, in-use (c .before) .0, in-use (c .before) .1, le-leb _ _ (c .if5 .taken))
 
-mul-if6 : tie.Need-mul-if6
-mul-if6 c = search needs
-
-shared-slice-read-if6 : tie.Need-shared-slice-read-if6
-shared-slice-read-if6 c = search needs
-
 returns-6 : tie.Need-returns-6
 unfolding linkCauses firstNumber number
 returns-6 c =
     let else4 = c .before .before .before in
     let else2 = else4 .before .before .before .before in
     rw (records else2 .0, records else2 .1, in-use else4 .0, in-use else4 .1, lt-leb _ _ (c .before .before .if5 .left), eq-eqb _ _ (c .if6 .taken))
-
-mul-if7 : tie.Need-mul-if7
-mul-if7 c = search needs
-
-shared-slice-read-if7 : tie.Need-shared-slice-read-if7
-shared-slice-read-if7 c = search needs
 
 returns-7 : tie.Need-returns-7
 unfolding linkCauses firstNumber number
@@ -112,17 +88,13 @@ link-cause-spec =
     (tie.spec
     returns
     returns-2
-    mul-if3
-    shared-slice-read-if3
+    (λ c. search needs) (λ c. search needs)
     returns-3
-    mul-if4
-    shared-slice-read-if4
+    (λ c. search needs) (λ c. search needs)
     returns-4
     returns-5
-    mul-if6
-    shared-slice-read-if6
+    (λ c. search needs) (λ c. search needs)
     returns-6
-    mul-if7
-    shared-slice-read-if7
+    (λ c. search needs) (λ c. search needs)
     returns-7
     returns-8)

@@ -24,15 +24,6 @@ loop-holds : tie.Need-loop-holds Inv-loop μ-loop
 unfolding callsOf tally
 loop-holds c = (omega arith, omega arith)
 
-mul-list-words : tie.Need-mul-list-words Inv-loop μ-loop
-mul-list-words c = omega arith
-
-shared-slice-read-list-words : tie.Need-shared-slice-read-list-words Inv-loop μ-loop
-shared-slice-read-list-words c = omega arith
-
-list-words-requires : tie.Need-list-words-requires Inv-loop μ-loop
-list-words-requires c κs = search needs
-
 returns : tie.Need-returns Inv-loop μ-loop
 returns c =
     let in-loop = c .before .before .before in
@@ -42,12 +33,6 @@ returns c =
     let h : l .i < size ws = in-loop .loop-test .taken in
     sym (lt-leb (1024 * closings (callsOf ws)) (start .args .length)
     (omega (arith, l .inv .1, c .before .list-words .ensures, closings-turn ws (l .i) h, closings-part ws (l .i + 1))))
-
-add-i : tie.Need-add-i Inv-loop μ-loop
-add-i c = omega arith
-
-loop-less : tie.Need-loop-less Inv-loop μ-loop
-loop-less c = omega arith
 
 loop-again : tie.Need-loop-again Inv-loop μ-loop
 loop-again c =
@@ -71,11 +56,8 @@ lists-fit-spec =
     Inv-loop
     μ-loop
     loop-holds
-    mul-list-words
-    shared-slice-read-list-words
-    list-words-requires
+    (λ c. omega arith) (λ c. omega arith) (λ c κs. search needs)
     returns
-    add-i
-    loop-less
+    (λ c. omega arith) (λ c. omega arith)
     loop-again
     returns-2)

@@ -14,13 +14,14 @@ use Rattle.book.specs.Basics.{tally}
 use Rattle.book.specs.Causes.{maxRecords}
 use Rattle.book.specs.Book.{freshAnswer, fresh, after, givens}
 use Rattle.book.specs.Sheets.{Sound}
+use Rattle.book.specs.ListLaws.{rest-whole}
 use Rattle.register.specs.Representation.{Represents}
 use Rattle.register.specs.Calls.{answerOf, answerNumber}
 use Rattle.register.specs.History.{Lent, wordCall, entryNumber, wordAnswers, entryCalls, callsOf, closings, laid}
 use Rattle.register.specs.HistoryLaws.{number-answer, represents-sound}
 use Rattle.register.specs.LaidLaws.{entry-answers, entry-follows, entry-given}
 use Rattle.register.proofs.ReplayLaws.{replay-size, replay-short, replay-few, replay-free, replay-refused, after-turn, told-turn, closings-turn}
-use Rattle.register.proofs.ReplayLaws.{closings-part, rest-whole, numbers-turn}
+use Rattle.register.proofs.ReplayLaws.{closings-part, numbers-turn}
 use Rattle.register.proofs.history.replay.Statement.{statement}
 use Rattle.register.proofs.history.replay.Tie as tie
 
@@ -34,12 +35,6 @@ Inv-loop n words told₀ numbers₀ register₀ at₀ i₀ told numbers register
 
 abbrev μ-loop : tie.MeasureT-loop
 μ-loop n words told₀ numbers₀ register₀ at₀ i₀ told numbers register at i = length words - i
-
-fresh-requires : tie.Need-fresh-requires Inv-loop μ-loop
-fresh-requires c κs = search needs
-
-number-of-requires : tie.Need-number-of-requires Inv-loop μ-loop
-number-of-requires c κs = search needs
 
 -- the number that opening told
 opened : (c : tie.After-number-of Inv-loop μ-loop) → c .number-of .result ≡ freshAnswer (c .before .before .before .before .before .before .args .n)
@@ -58,20 +53,11 @@ returns c =
 made : (c : tie.Else1 Inv-loop μ-loop) → freshAnswer (c .before .before .before .before .before .before .before .args .n) ≡ 0
 made c = sym (opened (c .before)) ∙ c .if1 .left
 
-empty-requires : tie.Need-empty-requires Inv-loop μ-loop
-empty-requires c κs = search needs
-
 returns-2 : tie.Need-returns-2 Inv-loop μ-loop
 returns-2 c =
     let s = c .before .before .before .before .before .before .before .before .before .args in
     let e = replay-short (s .n) (s .words .now) (s .told .now) (s .numbers .now) (made (c .before .before)) (c .before .if2 .taken) in
     replay-refused (s .n) (s .words .now) (s .told .now) (s .numbers .now) 11 e (c .empty .ensures)
-
-lists-fit-requires : tie.Need-lists-fit-requires Inv-loop μ-loop
-lists-fit-requires c κs = search needs
-
-empty-requires-2 : tie.Need-empty-requires-2 Inv-loop μ-loop
-empty-requires-2 c κs = search needs
 
 few : (c : tie.Then3 Inv-loop μ-loop)
     → let start = c .before .before .before .before .before .before .before .before .before .before in
@@ -111,12 +97,6 @@ told-fit c = omega arith
 numbers-fit : (c : tie.Start Inv-loop μ-loop) → length (c .args .numbers .now) < 18446744073709551616
 numbers-fit c = omega arith
 
-mul-word : tie.Need-mul-word Inv-loop μ-loop
-mul-word c = omega arith
-
-shared-slice-read-word : tie.Need-shared-slice-read-word Inv-loop μ-loop
-shared-slice-read-word c = omega arith
-
 -- the list of a word lies within the numbers, and so does all that is before it
 place : (c : tie.In-loop Inv-loop μ-loop)
     → let start = c .before .before .before .before .before .before .before .before .before .before .before .before in
@@ -136,15 +116,6 @@ sub-step c = omega (arith, place (c .before))
 part-step-start : tie.Need-part-step-start Inv-loop μ-loop
 part-step-start c = omega (arith, place (c .before))
 
-part-step-end : tie.Need-part-step-end Inv-loop μ-loop
-part-step-end c = omega arith
-
-step-requires : tie.Need-step-requires Inv-loop μ-loop
-step-requires c κs = search needs
-
-number-of-requires-2 : tie.Need-number-of-requires-2 Inv-loop μ-loop
-number-of-requires-2 c κs = search needs
-
 mul-told : tie.Need-mul-told Inv-loop μ-loop
 mul-told c =
     let in-loop = c .before .before .before .before .before .before in
@@ -157,9 +128,6 @@ slice-write-told c =
     let in-loop = c .before .before .before .before .before .before in
     let else2 = in-loop .before .before .before .before in
     omega (arith, in-loop .loop-test .taken, in-loop .before .loop .inv .1, else2 .if2 .left)
-
-list-words-requires : tie.Need-list-words-requires Inv-loop μ-loop
-list-words-requires c κs = search needs
 
 add-at : tie.Need-add-at Inv-loop μ-loop
 add-at c =
@@ -240,26 +208,21 @@ replay-spec =
     (tie.spec
     Inv-loop
     μ-loop
-    fresh-requires
-    number-of-requires
+    (λ c κs. search needs) (λ c κs. search needs)
     returns
-    empty-requires
+    (λ c κs. search needs)
     returns-2
-    lists-fit-requires
-    empty-requires-2
+    (λ c κs. search needs) (λ c κs. search needs)
     returns-3
     loop-holds
-    mul-word
-    shared-slice-read-word
+    (λ c. omega arith) (λ c. omega arith)
     mul-step
     sub-step
     part-step-start
-    part-step-end
-    step-requires
-    number-of-requires-2
+    (λ c. omega arith) (λ c κs. search needs) (λ c κs. search needs)
     mul-told
     slice-write-told
-    list-words-requires
+    (λ c κs. search needs)
     add-at
     add-i
     loop-less

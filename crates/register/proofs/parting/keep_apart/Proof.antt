@@ -30,33 +30,6 @@ loop-holds c =
           (λ j h. sym (getD-take (a .count) (a .words .now) j 0 (omega (arith, l)))),
     )
 
-mul-word : tie.Need-mul-word Inv-loop μ-loop
-mul-word c = omega arith
-
-slice-read-word : tie.Need-slice-read-word Inv-loop μ-loop
-slice-read-word c = omega arith
-
-stands-apart-requires : tie.Need-stands-apart-requires Inv-loop μ-loop
-stands-apart-requires c κs = search needs
-
-mul-words : tie.Need-mul-words Inv-loop μ-loop
-mul-words c = omega arith
-
-slice-write-words : tie.Need-slice-write-words Inv-loop μ-loop
-slice-write-words c = omega arith
-
-add-kept : tie.Need-add-kept Inv-loop μ-loop
-add-kept c = omega arith
-
-lowered-requires : tie.Need-lowered-requires Inv-loop μ-loop
-lowered-requires c κs = search needs
-
-add-i : tie.Need-add-i Inv-loop μ-loop
-add-i c = omega arith
-
-loop-less : tie.Need-loop-less Inv-loop μ-loop
-loop-less c = omega arith
-
 loop-again : tie.Need-loop-again Inv-loop μ-loop
 loop-again c =
     let at-loop = c .before .before .before .before in
@@ -94,10 +67,11 @@ same-length c = c .before .loop .inv .2
 
 returns : tie.Need-returns Inv-loop μ-loop
 returns c =
+    let start = c .before .before .before in
     let l = c .before .loop in
-    let a = c .before .before .before .args in
+    let a = start .args in
     keeping-all (a .«record») (take (a .count) (a .words .now)) (a .totals) (l .left) (l .words) (l .kept) (l .i)
-    (let e = length-take-le (a .count) (a .words .now) (c .before .before .before .pre) in omega (arith, e)) (l .inv .3)
+    (let e = length-take-le (a .count) (a .words .now) (start .pre) in omega (arith, e)) (l .inv .3)
 
 pub keep-apart-spec : {M : Type 1} → statement M
 keep-apart-spec =
@@ -106,15 +80,8 @@ keep-apart-spec =
     Inv-loop
     μ-loop
     loop-holds
-    mul-word
-    slice-read-word
-    stands-apart-requires
-    mul-words
-    slice-write-words
-    add-kept
-    lowered-requires
-    add-i
-    loop-less
+    (λ c. omega arith) (λ c. omega arith) (λ c κs. search needs) (λ c. omega arith) (λ c. omega arith) (λ c. omega arith) (λ c κs. search needs)
+    (λ c. omega arith) (λ c. omega arith)
     loop-again
     same-length
     returns)

@@ -3,11 +3,8 @@ use borrow.Author.Needs.{needs}
 use Rattle.register.proofs.parting.lowered.Statement.{statement}
 use Rattle.register.proofs.parting.lowered.Tie as tie
 
-lower-requires : tie.Need-lower-requires
-lower-requires c κs = search needs
-
 returns : tie.Need-returns
-returns c = c .lower .ensures
+returns c = c .lower-total .ensures
 
 pub lowered-spec : {M : Type 1} → statement M
-lowered-spec = tie.close (tie.spec lower-requires returns)
+lowered-spec = tie.close (tie.spec (λ c κs. search needs) returns)

@@ -6,16 +6,10 @@ use borrow.Author.Tests.{eq-eqb, ne-eqb}
 use Rattle.register.proofs.parting.stands_apart.Statement.{statement}
 use Rattle.register.proofs.parting.stands_apart.Tie as tie
 
-from-of-requires : tie.Need-from-of-requires
-from-of-requires c κs = search needs
-
 returns : tie.Need-returns
 returns c =
     let a = c .before .before .args in
     rw (eq-eqb (a .word / 1024 % 1024) (a .«record») (sym (c .before .from-of .ensures) ∙ c .if1 .taken))
-
-to-of-requires : tie.Need-to-of-requires
-to-of-requires c κs = search needs
 
 returns-2 : tie.Need-returns-2
 returns-2 c =
@@ -23,4 +17,4 @@ returns-2 c =
     rw (c .to-of .ensures, ne-eqb (a .word / 1024 % 1024) (a .«record») (λ z. c .before .if1 .left (c .before .before .from-of .ensures ∙ z)))
 
 pub stands-apart-spec : {M : Type 1} → statement M
-stands-apart-spec = tie.close (tie.spec from-of-requires returns to-of-requires returns-2)
+stands-apart-spec = tie.close (tie.spec (λ c κs. search needs) returns (λ c κs. search needs) returns-2)

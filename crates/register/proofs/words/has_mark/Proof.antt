@@ -9,14 +9,8 @@ use borrow.Author.Needs.{needs}
 use Rattle.register.proofs.words.has_mark.Statement.{statement}
 use Rattle.register.proofs.words.has_mark.Tie as tie
 
-is-register-requires : tie.Need-is-register-requires
-is-register-requires c κs = search needs
-
 returns : tie.Need-returns
 returns c = of-others (c .before .is-register .ensures) (not-true _ (c .if1 .taken))
-
-mark-in-requires : tie.Need-mark-in-requires
-mark-in-requires c κs = search needs
 
 returns-2 : tie.Need-returns-2
 returns-2 c =
@@ -24,4 +18,4 @@ returns-2 c =
     of-kept k (ap (λ (m : ℕ). eqb m (c .before .before .before .before .args .mark)) (c .mark-in .ensures ∙ keeps-mark k _))
 
 pub has-mark-spec : {M : Type 1} → statement M
-has-mark-spec = tie.close (tie.spec is-register-requires returns mark-in-requires returns-2)
+has-mark-spec = tie.close (tie.spec (λ c κs. search needs) returns (λ c κs. search needs) returns-2)

@@ -9,19 +9,10 @@ use borrow.Author.Needs.{needs}
 use Rattle.register.proofs.words.links_in.Statement.{statement}
 use Rattle.register.proofs.words.links_in.Tie as tie
 
-word-at-requires : tie.Need-word-at-requires
-word-at-requires c κs = search needs
-
-cast-count : tie.Need-cast-count
-cast-count c = search needs
-
-part-requires : tie.Need-part-requires
-part-requires c κs = search needs
-
 returns : tie.Need-returns
 returns c r k =
     front-shown (c .before .before .before .args .words .now) linksAt maxLinks (c .part .ensures)
     (c .before .word-at .ensures ∙ keeps-number k 1 (omega arith)) (k .ranged .count) (keeps-links k)
 
 pub links-in-spec : {M : Type 1} → statement M
-links-in-spec = tie.close (tie.spec word-at-requires cast-count part-requires returns)
+links-in-spec = tie.close (tie.spec (λ c κs. search needs) (λ c. search needs) (λ c κs. search needs) returns)

@@ -8,15 +8,9 @@ use borrow.Author.Needs.{needs}
 use Rattle.register.proofs.words.mark_in.Statement.{statement}
 use Rattle.register.proofs.words.mark_in.Tie as tie
 
-part-requires : tie.Need-part-requires
-part-requires c κs = search needs
-
-word-at-requires : tie.Need-word-at-requires
-word-at-requires c κs = search needs
-
 returns : tie.Need-returns
 unfolding markIn
 returns c = c .word-at .ensures ∙ ap (λ (l : List ℕ). getD l (c .before .before .before .args .«record») 0) (c .before .part .ensures)
 
 pub mark-in-spec : {M : Type 1} → statement M
-mark-in-spec = tie.close (tie.spec part-requires word-at-requires returns)
+mark-in-spec = tie.close (tie.spec (λ c κs. search needs) (λ c κs. search needs) returns)

@@ -9,19 +9,10 @@ use borrow.Author.Needs.{needs}
 use Rattle.register.proofs.words.marks_in.Statement.{statement}
 use Rattle.register.proofs.words.marks_in.Tie as tie
 
-word-at-requires : tie.Need-word-at-requires
-word-at-requires c κs = search needs
-
-cast-n : tie.Need-cast-n
-cast-n c = search needs
-
-part-requires : tie.Need-part-requires
-part-requires c κs = search needs
-
 returns : tie.Need-returns
 returns c r k =
     front-shown (c .before .before .before .args .words .now) marksAt maxRecords (c .part .ensures)
     (c .before .word-at .ensures ∙ keeps-number k 0 (omega arith)) (k .ranged .size) (keeps-marks k)
 
 pub marks-in-spec : {M : Type 1} → statement M
-marks-in-spec = tie.close (tie.spec word-at-requires cast-n part-requires returns)
+marks-in-spec = tie.close (tie.spec (λ c κs. search needs) (λ c. search needs) (λ c κs. search needs) returns)

@@ -9,24 +9,6 @@ use borrow.Author.Needs.{needs}
 use Rattle.register.proofs.words.part.Statement.{statement}
 use Rattle.register.proofs.words.part.Tie as tie
 
-fitting-requires : tie.Need-fitting-requires
-fitting-requires c κs = search needs
-
-mul-rest : tie.Need-mul-rest
-mul-rest c = search needs
-
-sub-rest : tie.Need-sub-rest
-sub-rest c = search needs
-
-part-rest-start : tie.Need-part-rest-start
-part-rest-start c = search needs
-
-part-rest-end : tie.Need-part-rest-end
-part-rest-end c = search needs
-
-fitting-requires-2 : tie.Need-fitting-requires-2
-fitting-requires-2 c κs = search needs
-
 -- the rest of the words, from the place on
 rest : (c : tie.After-fitting)
     → let a = c .before .before .args in
@@ -50,11 +32,6 @@ pub part-spec : {M : Type 1} → statement M
 part-spec =
     tie.close
     (tie.spec
-    fitting-requires
-    mul-rest
-    sub-rest
-    part-rest-start
-    part-rest-end
-    fitting-requires-2
+    (λ c κs. search needs) (λ c. search needs) (λ c. search needs) (λ c. search needs) (λ c. search needs) (λ c κs. search needs)
     slice-aggregate-result
     returns)

@@ -8,9 +8,6 @@ use borrow.Author.Needs.{needs}
 use Rattle.register.proofs.words.size_in.Statement.{statement}
 use Rattle.register.proofs.words.size_in.Tie as tie
 
-is-register-requires : tie.Need-is-register-requires
-is-register-requires c κs = search needs
-
 returns : tie.Need-returns
 returns c = (omega arith, of-others (c .before .is-register .ensures) (not-true _ (c .if1 .taken)))
 
@@ -32,4 +29,4 @@ returns-2 c =
 pub size-in-spec : {M : Type 1} → statement M
 size-in-spec =
     tie.close
-    (tie.spec is-register-requires returns shared-slice-read-result cast-result returns-2)
+    (tie.spec (λ c κs. search needs) returns shared-slice-read-result cast-result returns-2)

@@ -12,9 +12,6 @@ use borrow.Author.Needs.{needs}
 use Rattle.register.proofs.words.total_in.Statement.{statement}
 use Rattle.register.proofs.words.total_in.Tie as tie
 
-is-register-requires : tie.Need-is-register-requires
-is-register-requires c κs = search needs
-
 returns : tie.Need-returns
 unfolding number
 returns c = of-others (c .before .is-register .ensures) (not-true _ (c .if1 .taken))
@@ -25,12 +22,6 @@ one c = c .before .is-register .ensures .sure (not-false _ (c .if1 .left))
 returns-2 : tie.Need-returns-2
 unfolding number
 returns-2 c = let k = one (c .before) .1 in of-kept k (totals-refused _ _ (k .ranged) (c .if2 .taken))
-
-add-kept : tie.Need-add-kept
-add-kept c = search needs
-
-mul-kept : tie.Need-mul-kept
-mul-kept c = search needs
 
 shared-slice-read-kept : tie.Need-shared-slice-read-kept
 shared-slice-read-kept c = omega (arith, keeps-long (one (c .before .before) .1), c .before .if2 .left)
@@ -46,4 +37,4 @@ returns-3 c =
 pub total-in-spec : {M : Type 1} → statement M
 total-in-spec =
     tie.close
-    (tie.spec is-register-requires returns returns-2 add-kept mul-kept shared-slice-read-kept cast-t6 returns-3)
+    (tie.spec (λ c κs. search needs) returns returns-2 (λ c. search needs) (λ c. search needs) shared-slice-read-kept cast-t6 returns-3)

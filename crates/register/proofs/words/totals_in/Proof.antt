@@ -5,11 +5,8 @@ use borrow.Author.Needs.{needs}
 use Rattle.register.proofs.words.totals_in.Statement.{statement}
 use Rattle.register.proofs.words.totals_in.Tie as tie
 
-part-requires : tie.Need-part-requires
-part-requires c κs = search needs
-
 returns : tie.Need-returns
 returns c r k = c .part .ensures ∙ keeps-totals k
 
 pub totals-in-spec : {M : Type 1} → statement M
-totals-in-spec = tie.close (tie.spec part-requires returns)
+totals-in-spec = tie.close (tie.spec (λ c κs. search needs) returns)

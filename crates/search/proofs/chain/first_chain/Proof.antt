@@ -12,24 +12,12 @@ use Rattle.search.proofs.AnswerLaws.{setting, answered-none, reached, a
 use Rattle.search.proofs.chain.first_chain.Statement.{statement}
 use Rattle.search.proofs.chain.first_chain.Tie as tie
 
-slice-aggregate-arcs-of : tie.Need-slice-aggregate-arcs-of
-slice-aggregate-arcs-of c = search needs
-
-arcs-of-requires : tie.Need-arcs-of-requires
-arcs-of-requires c κs = search needs
-
 -- the words of the arcs, and how many of them count
 long : (c : tie.After-arcs-of) → length (c .arcs-of .last .1 .1 .0) ≡ 8192
 long c = search needs
 
 part-long : (c : tie.After-arcs-of) → length (take (c .arcs-of .result - 0) (c .arcs-of .last .1 .1 .0)) ≡ c .arcs-of .result - 0
 part-long c = length-take-le (c .arcs-of .result - 0) (c .arcs-of .last .1 .1 .0) (omega (arith, long c, c .arcs-of .ensures .0))
-
-sub-backward : tie.Need-sub-backward
-sub-backward c = search needs
-
-part-backward-start : tie.Need-part-backward-start
-part-backward-start c = search needs
 
 part-backward-end : tie.Need-part-backward-end
 part-backward-end c = omega (arith, long (c .before .before), c .before .before .arcs-of .ensures .0)
@@ -39,9 +27,6 @@ backward-requires c κs =
     let after-arcs-of = c .before .before .before .before in
     let start = after-arcs-of .before .before .before .before .before .before .before .before in
     let p = start .pre in (omega (arith, part-long after-arcs-of, after-arcs-of .arcs-of .ensures .0), p .1, p .3, p .4, p .5, p .6, p .7)
-
-same-length : tie.Need-same-length
-same-length c = search needs
 
 -- those that count, alone, are the crossings
 crossed : (c : tie.After-arcs-of)
@@ -65,12 +50,6 @@ returns c =
           answered-none g e (after-backward .backward .ensures g _ _ Q) (c .if1 .taken),
     )
 
-sub-steps : tie.Need-sub-steps
-sub-steps c = search needs
-
-same-length-2 : tie.Need-same-length-2
-same-length-2 c = search needs
-
 returns-2 : tie.Need-returns-2
 returns-2 c =
     let after-backward = c .before .before .before .before in
@@ -82,12 +61,6 @@ returns-2 c =
           let Q = setting size I (p .1) S (crossed after-arcs-of) T (p .3) in
           answered-short g e _ (reached g e (after-backward .backward .ensures g _ _ Q) (c .before .if1 .left)) (p .5) ux uy (c .if2 .taken),
     )
-
-sub-forward : tie.Need-sub-forward
-sub-forward c = search needs
-
-part-forward-start : tie.Need-part-forward-start
-part-forward-start c = search needs
 
 part-forward-end : tie.Need-part-forward-end
 part-forward-end c =
@@ -114,12 +87,6 @@ forward-requires c κs =
       search needs,
     )
 
-same-length-3 : tie.Need-same-length-3
-same-length-3 c = search needs
-
-same-length-4 : tie.Need-same-length-4
-same-length-4 c = search needs
-
 returns-3 : tie.Need-returns-3
 returns-3 c =
     let else2 = c .before .before .before .before .before .before .before .before .before .before in
@@ -138,21 +105,15 @@ pub first-chain-spec : {M : Type 1} → statement M
 first-chain-spec =
     tie.close
     (tie.spec
-    slice-aggregate-arcs-of
-    arcs-of-requires
-    sub-backward
-    part-backward-start
+    (λ c. search needs) (λ c κs. search needs) (λ c. search needs) (λ c. search needs)
     part-backward-end
     backward-requires
-    same-length
+    (λ c. search needs)
     returns
-    sub-steps
-    same-length-2
+    (λ c. search needs) (λ c. search needs)
     returns-2
-    sub-forward
-    part-forward-start
+    (λ c. search needs) (λ c. search needs)
     part-forward-end
     forward-requires
-    same-length-3
-    same-length-4
+    (λ c. search needs) (λ c. search needs)
     returns-3)

@@ -5,7 +5,7 @@ use native.Mathlib.Omega.{arith}
 use borrow.Author.Needs.{needs}
 use Rattle.k2.specs.Bits.{digit}
 use Rattle.automaton.specs.Automata.{On}
-use Rattle.search.proofs.LowestLaws.{some-digit}
+use Rattle.automaton.specs.LowestLaws.{some-digit}
 use Rattle.search.proofs.FrontierLaws.{added-zero, added-past, added-more, listed-old, list-room, listed-new}
 use Rattle.search.proofs.levels.add_states.Statement.{statement}
 use Rattle.search.proofs.levels.add_states.Tie as tie
@@ -14,7 +14,7 @@ use Rattle.search.proofs.levels.add_states.Tie as tie
 state : (c : tie.Else1) → (q : ℕ) × (q < 64) × On (digit (c .before .before .args .entry .states) q)
 state c = some-digit 64 (c .before .before .args .entry .states) (omega arith) (omega arith)
 
-room : (c : tie.Else3) → c .before .before .before .before .before .before .before .args .entry .listed < 1024
+room : (c : tie.Else3) → c .before .before .before .before .before .before .before .args .entry .queued < 1024
 room c =
     let else1 = c .before .before .before .before .before in
     let start = else1 .before .before in
@@ -28,21 +28,6 @@ returns c = (c .before .before .pre .4, added-zero _ _ _ _ (c .if1 .taken))
 returns-2 : tie.Need-returns-2
 returns-2 c = (c .before .before .before .before .pre .4, added-past _ _ _ _ (c .if2 .taken))
 
-mul-old : tie.Need-mul-old
-mul-old c = search needs
-
-slice-read-old : tie.Need-slice-read-old
-slice-read-old c = search needs
-
-mul-next : tie.Need-mul-next
-mul-next c = search needs
-
-slice-write-next : tie.Need-slice-write-next
-slice-write-next c = search needs
-
-same-length : tie.Need-same-length
-same-length c = search needs
-
 returns-3 : tie.Need-returns-3
 returns-3 c =
     let else1 = c .before .before .before .before .before in
@@ -53,9 +38,6 @@ returns-3 c =
       added-more _ _ _ _ (omega arith) (omega arith),
     )
 
-cast-list : tie.Need-cast-list
-cast-list c = search needs
-
 mul-list : tie.Need-mul-list
 mul-list c = omega (arith, room c)
 
@@ -64,12 +46,6 @@ slice-write-list c = omega (arith, room c)
 
 add-result : tie.Need-add-result
 add-result c = omega (arith, room c)
-
-same-length-2 : tie.Need-same-length-2
-same-length-2 c = search needs
-
-same-length-3 : tie.Need-same-length-3
-same-length-3 c = search needs
 
 returns-4 : tie.Need-returns-4
 returns-4 c =
@@ -87,16 +63,11 @@ add-states-spec =
     (tie.spec
     returns
     returns-2
-    mul-old
-    slice-read-old
-    mul-next
-    slice-write-next
-    same-length
+    (λ c. search needs) (λ c. search needs) (λ c. search needs) (λ c. search needs) (λ c. search needs)
     returns-3
-    cast-list
+    (λ c. search needs)
     mul-list
     slice-write-list
     add-result
-    same-length-2
-    same-length-3
+    (λ c. search needs) (λ c. search needs)
     returns-4)

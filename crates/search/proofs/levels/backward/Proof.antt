@@ -13,12 +13,12 @@ use lib.ListN.{length, getD, set, take, replicate, length-set, length-replicate}
 use lib.Seq.{length-take-le}
 use Rattle.k2.specs.Bits.{bitAt, onesBelow}
 use Rattle.k2.specs.DigitLaws.{digit-zero}
+use Rattle.k2.specs.BitLaws.{zeros-at}
 use Rattle.paths.specs.Chains.{Graph}
 use Rattle.automaton.specs.Automata.{Automaton}
 use Rattle.search.specs.Levels.{Setting, Levelled, numberAt, nowhere}
 use Rattle.search.specs.Frontiers.{Levelling, Listed, Frontier, Zero}
-use Rattle.search.proofs.MaskLaws.{zero-at}
-use Rattle.search.proofs.LevelLaws.{Level, level-start, level-next, level-falls, level-empty, mask-here, mask-off, ones-most, sought}
+use Rattle.search.proofs.LevelLaws.{Level, level-start, level-next, level-falls, level-empty, mask-here, mask-off, bits-few, sought}
 use Rattle.search.proofs.FrontierLaws.{listed-none, listed-fits, listed-take, none-listed, frontier-start}
 use Rattle.search.proofs.LevellingLaws.{levelling-none, levelling-all}
 use Rattle.search.proofs.CommitLaws.{commit-zero}
@@ -26,12 +26,12 @@ use Rattle.search.proofs.levels.backward.Statement.{statement}
 use Rattle.search.proofs.levels.backward.Tie as tie
 
 abbrev Inv-loop2 : tie.InvT-loop2
-Inv-loop2 arcs predecessors enter accepting work n start end index seen next₀ list₀ records masks count level listed₀ i₀ next list listed i =
-    (i ≤ count) × (length next ≡ 1024) × (length list ≡ 1024) × Listed list listed n next
+Inv-loop2 arcs predecessors enter accepting work n start end index seen next₀ list₀ records masks count level listed₀ i₀ next list queued i =
+    (i ≤ count) × (length next ≡ 1024) × (length list ≡ 1024) × Listed list queued n next
     × ((cur : List ℕ) → Frontier records masks count cur → Levelling arcs predecessors enter cur seen n (length arcs) records i (length arcs) next)
 
 abbrev μ-loop2 : tie.MeasureT-loop2
-μ-loop2 arcs predecessors enter accepting work n start end index seen next₀ list₀ records masks count level listed₀ i₀ next list listed i = count - i
+μ-loop2 arcs predecessors enter accepting work n start end index seen next₀ list₀ records masks count level listed₀ i₀ next list queued i = count - i
 
 abbrev Inv-loop : tie.InvT-loop
 Inv-loop arcs predecessors enter accepting work₀ n start end index seen₀ next₀
@@ -44,21 +44,6 @@ Inv-loop arcs predecessors enter accepting work₀ n start end index seen₀ nex
 abbrev μ-loop : tie.MeasureT-loop
 μ-loop arcs predecessors enter accepting work₀ n start end index seen₀ next₀ list₀ records₀ masks₀ count₀ level₀ work seen next list records masks count level =
     n * 64 - onesBelow (bitAt seen) (n * 64)
-
-index-by-reached-requires : tie.Need-index-by-reached-requires Inv-loop2 μ-loop2 Inv-loop μ-loop
-index-by-reached-requires c κs = search needs
-
-stamp-requires : tie.Need-stamp-requires Inv-loop2 μ-loop2 Inv-loop μ-loop
-stamp-requires c κs = omega arith
-
-mul-seen : tie.Need-mul-seen Inv-loop2 μ-loop2 Inv-loop μ-loop
-mul-seen c = omega arith
-
-array-write-seen : tie.Need-array-write-seen Inv-loop2 μ-loop2 Inv-loop μ-loop
-array-write-seen c = omega arith
-
-cast-records : tie.Need-cast-records Inv-loop2 μ-loop2 Inv-loop μ-loop
-cast-records c = omega arith
 
 loop-holds : tie.Need-loop-holds Inv-loop2 μ-loop2 Inv-loop μ-loop
 loop-holds c =
@@ -73,18 +58,12 @@ loop-holds c =
       length-replicate {A = ℕ} 1024 (s .accepting),
       omega arith,
       omega arith,
-      zero-at 1024,
+      zeros-at 1024,
       cur,
       frontier-start 1024 (s .ends .to) (s .accepting) (omega arith) (omega arith),
       λ g M fs S. level-start S (c .before .before .stamp .ensures) cur
           (mask-here 1024 (s .ends .to) (s .accepting) (omega arith)) (mask-off 1024 (s .ends .to) (s .accepting)),
     )
-
-mul-loop : tie.Need-mul-loop Inv-loop2 μ-loop2 Inv-loop μ-loop
-mul-loop c = omega arith
-
-array-read-loop : tie.Need-array-read-loop Inv-loop2 μ-loop2 Inv-loop μ-loop
-array-read-loop c = omega arith
 
 loop2-holds : tie.Need-loop2-holds Inv-loop2 μ-loop2 Inv-loop μ-loop
 loop2-holds c = let i = c .before .loop .inv in (omega arith, i .2, i .3, listed-none _ _ _ (i .8), λ cur F. levelling-none _ _ _ _ _ _ _ _ _ (i .8))
@@ -93,23 +72,8 @@ loop2-holds c = let i = c .before .loop .inv in (omega arith, i .2, i .3, listed
 inside : (c : tie.In-loop2 Inv-loop2 μ-loop2 Inv-loop μ-loop) → getD (c .before .before .before .loop .records) (c .before .loop2 .i) 0 < 1024
 inside c = c .before .before .before .loop .inv .10 .small (c .before .loop2 .i) (omega arith)
 
-mul-at : tie.Need-mul-at Inv-loop2 μ-loop2 Inv-loop μ-loop
-mul-at c = omega arith
-
-array-read-at : tie.Need-array-read-at Inv-loop2 μ-loop2 Inv-loop μ-loop
-array-read-at c = omega arith
-
 cast-at : tie.Need-cast-at Inv-loop2 μ-loop2 Inv-loop μ-loop
 cast-at c = omega (arith, inside (c))
-
-mul-states : tie.Need-mul-states Inv-loop2 μ-loop2 Inv-loop μ-loop
-mul-states c = omega arith
-
-array-read-states : tie.Need-array-read-states Inv-loop2 μ-loop2 Inv-loop μ-loop
-array-read-states c = omega arith
-
-slice-aggregate-into : tie.Need-slice-aggregate-into Inv-loop2 μ-loop2 Inv-loop μ-loop
-slice-aggregate-into c = search needs
 
 slice-aggregate-into-2 : tie.Need-slice-aggregate-into-2 Inv-loop2 μ-loop2 Inv-loop μ-loop
 slice-aggregate-into-2 c = sym (c .before .before .before .before .before .loop .inv .1)
@@ -132,12 +96,6 @@ into-requires c κs =
     let long : length (X .result) ≡ 9216 = search needs in
     (p .0, long, p .2, p .3, inside in-loop2, at-loop .loop .inv .1, p .1, l .1, l .2, X .ensures, l .3)
 
-add-i : tie.Need-add-i Inv-loop2 μ-loop2 Inv-loop μ-loop
-add-i c = omega arith
-
-loop2-less : tie.Need-loop2-less Inv-loop2 μ-loop2 Inv-loop μ-loop
-loop2-less c = omega arith
-
 loop2-again : tie.Need-loop2-again Inv-loop2 μ-loop2 Inv-loop μ-loop
 loop2-again c =
     let l = c .before .before .before .before .before .before .before .before .loop2 in
@@ -158,19 +116,19 @@ made : (c : tie.After-loop2 Inv-loop2 μ-loop2 Inv-loop μ-loop)
     (at-loop .loop .seen) (start .args .ends .n) (length (start .args .arcs .now)) (c .before .loop2 .next)
 made c cur F = let l = c .before .loop2 in let e : l .i ≡ c .before .before .before .loop .count = omega arith in levelling-all (rw e at (l .inv .4 cur F)) F
 
--- the records listed, as they are lent
+-- the records queued, as they are lent
 part-long : (c : tie.After-loop2 Inv-loop2 μ-loop2 Inv-loop μ-loop)
-    → length (take (c .before .loop2 .listed - 0) (c .before .loop2 .list)) ≡ c .before .loop2 .listed - 0
-part-long c = let l = c .before .loop2 in let h = listed-fits (l .inv .3) in length-take-le (l .listed - 0) (l .list) (omega (arith, l .inv .2))
+    → length (take (c .before .loop2 .queued - 0) (c .before .loop2 .list)) ≡ c .before .loop2 .queued - 0
+part-long c = let l = c .before .loop2 in let h = listed-fits (l .inv .3) in length-take-le (l .queued - 0) (l .list) (omega (arith, l .inv .2))
 
 listed-part : (c : tie.After-loop2 Inv-loop2 μ-loop2 Inv-loop μ-loop)
     → let start = c .before .before .before .before .before .before .before .before .before .before .before .before .before in
-    Listed (take (c .before .loop2 .listed - 0) (c .before .loop2 .list))
-    (length (take (c .before .loop2 .listed - 0) (c .before .loop2 .list))) (start .args .ends .n) (c .before .loop2 .next)
+    Listed (take (c .before .loop2 .queued - 0) (c .before .loop2 .list))
+    (length (take (c .before .loop2 .queued - 0) (c .before .loop2 .list))) (start .args .ends .n) (c .before .loop2 .next)
 listed-part c =
     let l = c .before .loop2 in
     let h = listed-fits (l .inv .3) in
-    let part : l .listed - 0 ≡ l .listed = omega arith in
+    let part : l .queued - 0 ≡ l .queued = omega arith in
     rw part (listed-take (l .inv .3) (omega (arith, l .inv .2)))
 
 same-length : tie.Need-same-length Inv-loop2 μ-loop2 Inv-loop μ-loop
@@ -192,12 +150,6 @@ slice-aggregate-commit c = sym (c .before .before .before .before .before .befor
 slice-aggregate-commit-2 : tie.Need-slice-aggregate-commit-2 Inv-loop2 μ-loop2 Inv-loop μ-loop
 slice-aggregate-commit-2 c = sym (c .before .before .before .before .before .loop2 .inv .1)
 
-sub-commit : tie.Need-sub-commit Inv-loop2 μ-loop2 Inv-loop μ-loop
-sub-commit c = omega arith
-
-part-commit-start : tie.Need-part-commit-start Inv-loop2 μ-loop2 Inv-loop μ-loop
-part-commit-start c = omega arith
-
 part-commit-end : tie.Need-part-commit-end Inv-loop2 μ-loop2 Inv-loop μ-loop
 part-commit-end c =
     let at-loop2 = c .before .before .before .before .before .before in
@@ -207,7 +159,7 @@ add-commit : tie.Need-add-commit Inv-loop2 μ-loop2 Inv-loop μ-loop
 add-commit c =
     let at-loop = c .before .before .before .before .before .before .before .before .before in
     let start = at-loop .before .before .before .before .before .before .before .before .before .before in
-    omega (arith, ones-most (at-loop .loop .seen) (start .args .ends .n * 64))
+    omega (arith, bits-few (at-loop .loop .seen) (start .args .ends .n * 64))
 
 slice-aggregate-commit-3 : tie.Need-slice-aggregate-commit-3 Inv-loop2 μ-loop2 Inv-loop μ-loop
 slice-aggregate-commit-3 c = sym (c .before .before .before .before .before .before .before .before .before .before .loop .inv .4)
@@ -237,11 +189,11 @@ grows c =
     let else1 = c .before .before .before .before .before .before .before .before in
     let at-loop = else1 .before .before .before .before in
     let i = at-loop .loop .inv in
-    let listed = else1 .before .before .loop2 .inv .3 in
+    let queued = else1 .before .before .loop2 .inv .3 in
     let some = else1 .if1 .left in
-    let state = listed .some 0 (omega arith) in
+    let state = queued .some 0 (omega arith) in
     level-falls (made (else1 .before) (i .9) (i .10)) (c .commit .ensures .2 _ (listed-part (else1 .before)))
-    (listed .small 0 (omega arith)) (state .1) (state .2)
+    (queued .small 0 (omega arith)) (state .1) (state .2)
 
 add-level : tie.Need-add-level Inv-loop2 μ-loop2 Inv-loop μ-loop
 add-level c =
@@ -250,14 +202,14 @@ add-level c =
     let start = at-loop .before .before .before .before .before .before .before .before .before .before in
     let h = start .pre .1 in
     let i = at-loop .loop .inv .7 in
-    omega (arith, ones-most (at-loop .loop .seen) (start .args .ends .n * 64))
+    omega (arith, bits-few (at-loop .loop .seen) (start .args .ends .n * 64))
 
 loop-less : tie.Need-loop-less Inv-loop2 μ-loop2 Inv-loop μ-loop
 loop-less c =
     let after-commit = c .before .before .before .before .before .before in
     let earlier = after-commit .before .before .before .before .before .before .before .before .before .before .before in
     let start = earlier .before .before .before .before .before .before .before .before .before .before .before in
-    omega (arith, grows after-commit, ones-most (after-commit .commit .last .1 .0) (start .args .ends .n * 64))
+    omega (arith, grows after-commit, bits-few (after-commit .commit .last .1 .0) (start .args .ends .n * 64))
 
 loop-again : tie.Need-loop-again Inv-loop2 μ-loop2 Inv-loop μ-loop
 loop-again c =
@@ -268,7 +220,7 @@ loop-again c =
     let m = after-loop2 .before .loop2 in
     let done = after-commit .commit in
     let two : l .level + 2 ≡ suc (suc (l .level)) = omega arith in
-    let long : length (take (m .listed - 0) (m .list)) ≡ m .listed = (let e = part-long after-loop2 in omega arith) in (
+    let long : length (take (m .queued - 0) (m .list)) ≡ m .queued = (let e = part-long after-loop2 in omega arith) in (
       done .kept .0 ∙ l .inv .0,
       done .kept .1 .0 ∙ l .inv .1,
       done .kept .1 .1 .0 ∙ m .inv .1,
@@ -283,12 +235,6 @@ loop-again c =
       λ g M fs S. rw add-one
           (level-next S (l .inv .11 g M fs S) (made after-loop2 (l .inv .9) (l .inv .10)) (rw two at (done .ensures .2 _ (listed-part after-loop2)))),
     )
-
-mul-t27 : tie.Need-mul-t27 Inv-loop2 μ-loop2 Inv-loop μ-loop
-mul-t27 c = omega arith
-
-mul-t70 : tie.Need-mul-t70 Inv-loop2 μ-loop2 Inv-loop μ-loop
-mul-t70 c = omega arith
 
 slice-read-t72 : tie.Need-slice-read-t72 Inv-loop2 μ-loop2 Inv-loop μ-loop
 slice-read-t72 c =
@@ -319,34 +265,24 @@ backward-spec =
     μ-loop2
     Inv-loop
     μ-loop
-    index-by-reached-requires
-    stamp-requires
-    mul-seen
-    array-write-seen
-    cast-records
+    (λ c κs. search needs) (λ c κs. omega arith) (λ c. omega arith) (λ c. omega arith) (λ c. omega arith)
     loop-holds
-    mul-loop
-    array-read-loop
+    (λ c. omega arith) (λ c. omega arith)
     loop2-holds
-    mul-at
-    array-read-at
+    (λ c. omega arith) (λ c. omega arith)
     cast-at
-    mul-states
-    array-read-states
-    slice-aggregate-into
+    (λ c. omega arith) (λ c. omega arith) (λ c. search needs)
     slice-aggregate-into-2
     slice-aggregate-into-3
     slice-aggregate-into-4
     into-requires
-    add-i
-    loop2-less
+    (λ c. omega arith) (λ c. omega arith)
     loop2-again
     same-length
     returns
     slice-aggregate-commit
     slice-aggregate-commit-2
-    sub-commit
-    part-commit-start
+    (λ c. omega arith) (λ c. omega arith)
     part-commit-end
     add-commit
     slice-aggregate-commit-3
@@ -355,8 +291,7 @@ backward-spec =
     add-level
     loop-less
     loop-again
-    mul-t27
-    mul-t70
+    (λ c. omega arith) (λ c. omega arith)
     slice-read-t72
     same-length-2
     returns-2)

@@ -25,12 +25,6 @@ inside : (c : tie.In-loop Inv-loop μ-loop)
     getD (start .args .list .now) (c .before .loop .i) 0 < start .pre .4 .0
 inside c = c .before .before .before .before .before .before .before .before .pre .4 .4 .small (c .before .loop .i) (omega arith)
 
-mul-at : tie.Need-mul-at Inv-loop μ-loop
-mul-at c = omega arith
-
-shared-slice-read-at : tie.Need-shared-slice-read-at Inv-loop μ-loop
-shared-slice-read-at c = omega arith
-
 cast-at : tie.Need-cast-at Inv-loop μ-loop
 cast-at c = omega (arith, inside (c .before))
 
@@ -60,30 +54,6 @@ mul-next c = omega (arith, inside (c .before .before .before .before .before .be
 
 slice-write-next : tie.Need-slice-write-next Inv-loop μ-loop
 slice-write-next c = omega (arith, inside (c .before .before .before .before .before .before .before))
-
-mul-records : tie.Need-mul-records Inv-loop μ-loop
-mul-records c = omega arith
-
-shared-slice-read-records : tie.Need-shared-slice-read-records Inv-loop μ-loop
-shared-slice-read-records c = omega arith
-
-mul-records-2 : tie.Need-mul-records-2 Inv-loop μ-loop
-mul-records-2 c = omega arith
-
-slice-write-records : tie.Need-slice-write-records Inv-loop μ-loop
-slice-write-records c = omega arith
-
-mul-masks : tie.Need-mul-masks Inv-loop μ-loop
-mul-masks c = omega arith
-
-slice-write-masks : tie.Need-slice-write-masks Inv-loop μ-loop
-slice-write-masks c = omega arith
-
-add-i : tie.Need-add-i Inv-loop μ-loop
-add-i c = omega arith
-
-loop-less : tie.Need-loop-less Inv-loop μ-loop
-loop-less c = omega arith
 
 loop-again : tie.Need-loop-again Inv-loop μ-loop
 loop-again c =
@@ -133,8 +103,7 @@ commit-spec =
     Inv-loop
     μ-loop
     loop-holds
-    mul-at
-    shared-slice-read-at
+    (λ c. omega arith) (λ c. omega arith)
     cast-at
     mul-states
     slice-read-states
@@ -145,14 +114,8 @@ commit-spec =
     slice-write-seen
     mul-next
     slice-write-next
-    mul-records
-    shared-slice-read-records
-    mul-records-2
-    slice-write-records
-    mul-masks
-    slice-write-masks
-    add-i
-    loop-less
+    (λ c. omega arith) (λ c. omega arith) (λ c. omega arith) (λ c. omega arith) (λ c. omega arith) (λ c. omega arith) (λ c. omega arith)
+    (λ c. omega arith)
     loop-again
     same-length
     same-length-2

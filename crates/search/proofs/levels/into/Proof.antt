@@ -15,14 +15,14 @@ use Rattle.search.proofs.levels.into.Statement.{statement}
 use Rattle.search.proofs.levels.into.Tie as tie
 
 abbrev Inv-loop : tie.InvT-loop
-Inv-loop arcs index predecessors enter seen next₀ list₀ entry n listed₀ cursor₀ next list listed cursor =
-    (length next ≡ length next₀) × (length list ≡ length list₀) × Cursor (arcTo arcs) (length arcs) (entry .at) cursor × Listed list listed (entry .n) next
+Inv-loop arcs index predecessors enter seen next₀ list₀ entry n listed₀ cursor₀ next list queued cursor =
+    (length next ≡ length next₀) × (length list ≡ length list₀) × Cursor (arcTo arcs) (length arcs) (entry .at) cursor × Listed list queued (entry .n) next
     × ((cur records : List ℕ) (i : ℕ) → entry .at ≡ getD records i 0 → entry .states ≡ getD cur (entry .at) 0
     → Levelling arcs predecessors enter cur seen (entry .n) (length arcs) records i (length arcs) next₀
     → Levelling arcs predecessors enter cur seen (entry .n) (length arcs) records i cursor next)
 
 abbrev μ-loop : tie.MeasureT-loop
-μ-loop arcs index predecessors enter seen next₀ list₀ entry n listed₀ cursor₀ next list listed cursor = cursor
+μ-loop arcs index predecessors enter seen next₀ list₀ entry n listed₀ cursor₀ next list queued cursor = cursor
 
 -- the arc at which the cursor stands
 stands : (c : tie.In-loop Inv-loop μ-loop)
@@ -40,32 +40,11 @@ loop-holds c =
     let p = c .before .before .before .before .before .before .before .before .pre in
     rw (c .first-arc .ensures) (refl, refl, p .9 .first-at _ (p .4), p .10, λ cur records i at e L. levelling-first at (p .9) L)
 
-sub-j : tie.Need-sub-j Inv-loop μ-loop
-sub-j c = omega arith
-
-mul-arc : tie.Need-mul-arc Inv-loop μ-loop
-mul-arc c = omega arith
-
 shared-slice-read-arc : tie.Need-shared-slice-read-arc Inv-loop μ-loop
 shared-slice-read-arc c = omega (arith, stands (c .before))
 
 cast-arc : tie.Need-cast-arc Inv-loop μ-loop
 cast-arc c = omega (arith, c .shared-slice-known6 .given (c .before .before .loop .cursor - 1) .fits)
-
-mul-spread : tie.Need-mul-spread Inv-loop μ-loop
-mul-spread c = omega arith
-
-shared-slice-read-spread : tie.Need-shared-slice-read-spread Inv-loop μ-loop
-shared-slice-read-spread c = omega arith
-
-spread-requires : tie.Need-spread-requires Inv-loop μ-loop
-spread-requires c κs = omega arith
-
-mul-states : tie.Need-mul-states Inv-loop μ-loop
-mul-states c = omega arith
-
-shared-slice-read-states : tie.Need-shared-slice-read-states Inv-loop μ-loop
-shared-slice-read-states c = omega arith
 
 add-states-requires : tie.Need-add-states-requires Inv-loop μ-loop
 add-states-requires c κs =
@@ -127,15 +106,10 @@ into-spec =
     μ-loop
     first-arc-requires
     loop-holds
-    sub-j
-    mul-arc
+    (λ c. omega arith) (λ c. omega arith)
     shared-slice-read-arc
     cast-arc
-    mul-spread
-    shared-slice-read-spread
-    spread-requires
-    mul-states
-    shared-slice-read-states
+    (λ c. omega arith) (λ c. omega arith) (λ c κs. omega arith) (λ c. omega arith) (λ c. omega arith)
     add-states-requires
     next-arc-requires
     loop-less

@@ -19,16 +19,16 @@ use Rattle.search.proofs.reach.out_of.Statement.{statement}
 use Rattle.search.proofs.reach.out_of.Tie as tie
 
 abbrev Inv-loop : tie.InvT-loop
-Inv-loop arcs index enter seen₀ pending₀ list₀ entry n listed₀ cursor₀ seen pending list listed cursor =
+Inv-loop arcs index enter seen₀ pending₀ list₀ entry n listed₀ cursor₀ seen pending list queued cursor =
     (length seen ≡ length seen₀) × (length pending ≡ length pending₀) × (length list ≡ length list₀)
-    × Cursor (arcFrom arcs) (length arcs) (entry .at) cursor × Listed list listed (entry .n) pending
+    × Cursor (arcFrom arcs) (length arcs) (entry .at) cursor × Listed list queued (entry .n) pending
     × Fewer (entry .n) seen₀ pending₀ seen pending
     × ((fs : List ℕ) (x mask : ℕ) → Spread fs mask 0 (entry .states)
     → Expanding fs enter arcs (length arcs) (entry .n) x seen₀ pending₀ (entry .at) mask (length arcs)
     → Expanding fs enter arcs (length arcs) (entry .n) x seen pending (entry .at) mask cursor)
 
 abbrev μ-loop : tie.MeasureT-loop
-μ-loop arcs index enter seen₀ pending₀ list₀ entry n listed₀ cursor₀ seen pending list listed cursor = cursor
+μ-loop arcs index enter seen₀ pending₀ list₀ entry n listed₀ cursor₀ seen pending list queued cursor = cursor
 
 -- the arc at which the cursor stands
 stands : (c : tie.In-loop Inv-loop μ-loop)
@@ -46,32 +46,17 @@ loop-holds c =
     let p = c .before .before .before .before .before .before .before .pre in
     rw (c .first-arc .ensures) (refl, refl, refl, p .8 .first-at _ (p .7), p .9, λ i h. omega arith, λ fs x mask S I. expanding-first (p .8) I)
 
-sub-j : tie.Need-sub-j Inv-loop μ-loop
-sub-j c = omega arith
-
-mul-arc : tie.Need-mul-arc Inv-loop μ-loop
-mul-arc c = omega arith
-
 shared-slice-read-arc : tie.Need-shared-slice-read-arc Inv-loop μ-loop
 shared-slice-read-arc c = omega (arith, stands (c .before))
 
 cast-arc : tie.Need-cast-arc Inv-loop μ-loop
 cast-arc c = omega (arith, c .shared-slice-known4 .given (c .before .before .loop .cursor - 1) .fits)
 
-mul-old : tie.Need-mul-old Inv-loop μ-loop
-mul-old c = omega arith
-
 slice-read-old : tie.Need-slice-read-old Inv-loop μ-loop
 slice-read-old c = omega (arith, c .before .before .before .before .before .before .before .before .before .before .before .pre .3)
 
-mul-states : tie.Need-mul-states Inv-loop μ-loop
-mul-states c = omega arith
-
 shared-slice-read-states : tie.Need-shared-slice-read-states Inv-loop μ-loop
 shared-slice-read-states c = omega (arith, c .before .before .before .before .before .before .before .before .before .before .before .before .pre .2)
-
-mul-seen : tie.Need-mul-seen Inv-loop μ-loop
-mul-seen c = omega arith
 
 slice-write-seen : tie.Need-slice-write-seen Inv-loop μ-loop
 slice-write-seen c = omega (arith, c .before .before .before .before .before .before .before .before .before .before .before .before .before .pre .3)
@@ -148,15 +133,14 @@ out-of-spec =
     μ-loop
     first-arc-requires
     loop-holds
-    sub-j
-    mul-arc
+    (λ c. omega arith) (λ c. omega arith)
     shared-slice-read-arc
     cast-arc
-    mul-old
+    (λ c. omega arith)
     slice-read-old
-    mul-states
+    (λ c. omega arith)
     shared-slice-read-states
-    mul-seen
+    (λ c. omega arith)
     slice-write-seen
     add-states-requires
     next-arc-requires

@@ -1,4 +1,4 @@
--- `reach` goes out of one record after another, the last listed first. The loop's invariant: the list has the records with states pending (`Listed`), and
+-- `reach` goes out of one record after another, the last queued first. The loop's invariant: the list has the records with states pending (`Listed`), and
 -- what was seen is come to and, where it is not pending, gone out of (`Expanding`). The measure is the number of states that are not seen or pending
 -- (`toDo`), which a record taken off lessens (`fewer-pop`) and an arc does not raise (`Fewer`). Assumes nothing.
 use mathlib.Core.Path.{_≡_, sym, _∙_}
@@ -7,10 +7,10 @@ use native.Mathlib.Omega.{arith}
 use borrow.Author.Needs.{needs}
 use lib.ListN.{length, getD, set, replicate, length-set, length-replicate}
 use Rattle.k2.specs.Bits.{onesBelow}
+use Rattle.k2.specs.BitLaws.{zeros-at, ones-most}
 use Rattle.search.specs.Frontiers.{Listed}
 use Rattle.search.specs.Reaching.{Expanding, toDo}
-use Rattle.search.proofs.MaskLaws.{zero-at}
-use Rattle.search.proofs.LevelLaws.{ones-mono, mask-here, mask-off}
+use Rattle.search.proofs.LevelLaws.{mask-here, mask-off}
 use Rattle.search.proofs.FrontierLaws.{listed-none, listed-fits, none-listed}
 use Rattle.search.proofs.ReachLaws.{listed-less, expanding-pop, fewer-pop, expanding-start, expanding-all}
 use Rattle.search.proofs.reach.reach.Statement.{statement}
@@ -24,7 +24,7 @@ Inv-loop arcs follow enter n from index seen₀ pending₀ list₀ count₀ seen
 abbrev μ-loop : tie.MeasureT-loop
 μ-loop arcs follow enter n from index seen₀ pending₀ list₀ count₀ seen pending list count = onesBelow (toDo seen pending) (n * 64)
 
--- the record last listed
+-- the record last queued
 inside : (c : tie.In-loop Inv-loop μ-loop)
     → let start = c .before .before .before .before .before .before .before .before .before .before .before in
     getD (c .before .loop .list) (c .before .loop .count - 1) 0 < start .args .n
@@ -33,25 +33,10 @@ inside c = c .before .loop .inv .3 .small (c .before .loop .count - 1) (omega ar
 within : (c : tie.In-loop Inv-loop μ-loop) → getD (c .before .loop .list) (c .before .loop .count - 1) 0 < length (c .before .loop .pending)
 within c = omega (arith, inside c, c .before .loop .inv .1)
 
-index-by-left-requires : tie.Need-index-by-left-requires Inv-loop μ-loop
-index-by-left-requires c κs = search needs
-
-mul-seen : tie.Need-mul-seen Inv-loop μ-loop
-mul-seen c = omega arith
-
-array-write-seen : tie.Need-array-write-seen Inv-loop μ-loop
-array-write-seen c = omega arith
-
-slice-aggregate-add-states : tie.Need-slice-aggregate-add-states Inv-loop μ-loop
-slice-aggregate-add-states c = search needs
-
-slice-aggregate-add-states-2 : tie.Need-slice-aggregate-add-states-2 Inv-loop μ-loop
-slice-aggregate-add-states-2 c = search needs
-
 add-states-requires : tie.Need-add-states-requires Inv-loop μ-loop
 add-states-requires c κs =
     let p = c .before .before .before .before .before .before .pre in
-    (p .3, length-replicate {A = ℕ} 1024 0, length-replicate {A = ℕ} 1024 0, omega arith, listed-none _ _ _ (zero-at 1024))
+    (p .3, length-replicate {A = ℕ} 1024 0, length-replicate {A = ℕ} 1024 0, omega arith, listed-none _ _ _ (zeros-at 1024))
 
 loop-holds : tie.Need-loop-holds Inv-loop μ-loop
 loop-holds c =
@@ -62,11 +47,8 @@ loop-holds c =
       A .kept .0 ∙ length-replicate {A = ℕ} 1024 0,
       A .kept .1 .0 ∙ length-replicate {A = ℕ} 1024 0,
       A .ensures .0,
-      expanding-start (start .pre .4) (zero-at 1024) (mask-here 1024 (s .from) 1 (omega arith)) (mask-off 1024 (s .from) 1) (A .ensures .1),
+      expanding-start (start .pre .4) (zeros-at 1024) (mask-here 1024 (s .from) 1 (omega arith)) (mask-off 1024 (s .from) 1) (A .ensures .1),
     )
-
-sub-last : tie.Need-sub-last Inv-loop μ-loop
-sub-last c = omega arith
 
 mul-at : tie.Need-mul-at Inv-loop μ-loop
 mul-at c = let h = listed-fits (c .before .loop .inv .3) in omega arith
@@ -83,17 +65,11 @@ mul-spread c = omega (arith, inside (c))
 array-read-spread : tie.Need-array-read-spread Inv-loop μ-loop
 array-read-spread c = omega (arith, inside (c), c .before .loop .inv .1)
 
-spread-requires : tie.Need-spread-requires Inv-loop μ-loop
-spread-requires c κs = search needs
-
 mul-pending : tie.Need-mul-pending Inv-loop μ-loop
 mul-pending c = omega (arith, inside (c .before))
 
 array-write-pending : tie.Need-array-write-pending Inv-loop μ-loop
 array-write-pending c = omega (arith, inside (c .before), c .before .before .loop .inv .1)
-
-slice-aggregate-out-of : tie.Need-slice-aggregate-out-of Inv-loop μ-loop
-slice-aggregate-out-of c = search needs
 
 slice-aggregate-out-of-2 : tie.Need-slice-aggregate-out-of-2 Inv-loop μ-loop
 slice-aggregate-out-of-2 c = sym (c .before .before .before .before .loop .inv .0)
@@ -135,7 +111,7 @@ loop-less c =
     let start = in-loop .before .before .before .before .before .before .before .before .before .before .before in
     let l = in-loop .before .loop in
     let a = fewer-pop (l .inv .3) (omega arith) (within in-loop) (l .seen) (l .inv .4 .waits) in
-    let b = ones-mono _ _ (start .args .n * 64) (after-out-of .out-of .ensures .1) in
+    let b = ones-most _ _ (start .args .n * 64) (after-out-of .out-of .ensures .1) in
     omega arith
 
 loop-again : tie.Need-loop-again Inv-loop μ-loop
@@ -160,23 +136,19 @@ reach-spec =
     (tie.spec
     Inv-loop
     μ-loop
-    index-by-left-requires
-    mul-seen
-    array-write-seen
-    slice-aggregate-add-states
-    slice-aggregate-add-states-2
+    (λ c κs. search needs) (λ c. omega arith) (λ c. omega arith) (λ c. search needs) (λ c. search needs)
     add-states-requires
     loop-holds
-    sub-last
+    (λ c. omega arith)
     mul-at
     array-read-at
     cast-at
     mul-spread
     array-read-spread
-    spread-requires
+    (λ c κs. search needs)
     mul-pending
     array-write-pending
-    slice-aggregate-out-of
+    (λ c. search needs)
     slice-aggregate-out-of-2
     slice-aggregate-out-of-3
     slice-aggregate-out-of-4

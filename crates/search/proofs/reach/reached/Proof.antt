@@ -12,24 +12,12 @@ use Rattle.search.proofs.ReachLaws.{ended}
 use Rattle.search.proofs.reach.reached.Statement.{statement}
 use Rattle.search.proofs.reach.reached.Tie as tie
 
-slice-aggregate-arcs-of : tie.Need-slice-aggregate-arcs-of
-slice-aggregate-arcs-of c = search needs
-
-arcs-of-requires : tie.Need-arcs-of-requires
-arcs-of-requires c κs = search needs
-
 -- the words of the arcs, and how many of them count
 long : (c : tie.After-arcs-of) → length (c .arcs-of .last .1 .1 .0) ≡ 8192
 long c = search needs
 
 part-long : (c : tie.After-arcs-of) → length (take (c .arcs-of .result - 0) (c .arcs-of .last .1 .1 .0)) ≡ c .arcs-of .result - 0
 part-long c = length-take-le (c .arcs-of .result - 0) (c .arcs-of .last .1 .1 .0) (omega (arith, long c, c .arcs-of .ensures .0))
-
-sub-reach : tie.Need-sub-reach
-sub-reach c = search needs
-
-part-reach-start : tie.Need-part-reach-start
-part-reach-start c = search needs
 
 part-reach-end : tie.Need-part-reach-end
 part-reach-end c = omega (arith, long (c .before .before), c .before .before .arcs-of .ensures .0)
@@ -59,10 +47,7 @@ pub reached-spec : {M : Type 1} → statement M
 reached-spec =
     tie.close
     (tie.spec
-    slice-aggregate-arcs-of
-    arcs-of-requires
-    sub-reach
-    part-reach-start
+    (λ c. search needs) (λ c κs. search needs) (λ c. search needs) (λ c. search needs)
     part-reach-end
     reach-requires
     returns)

@@ -38,44 +38,11 @@ stands : (c : tie.In-loop Inv-loop μ-loop)
     (0 < c .before .loop .cursor) × (c .before .loop .cursor ≤ length (start .args .arcs .now))
 stands c = (omega arith, c .before .loop .inv .0 .0)
 
-sub-j : tie.Need-sub-j Inv-loop μ-loop
-sub-j c = omega arith
-
-mul-arc : tie.Need-mul-arc Inv-loop μ-loop
-mul-arc c = omega arith
-
 shared-slice-read-arc : tie.Need-shared-slice-read-arc Inv-loop μ-loop
 shared-slice-read-arc c = omega (arith, stands (c .before))
 
 cast-arc : tie.Need-cast-arc Inv-loop μ-loop
 cast-arc c = omega (arith, c .shared-slice-known6 .given (c .before .before .loop .cursor - 1) .fits)
-
-mul-kept : tie.Need-mul-kept Inv-loop μ-loop
-mul-kept c = omega arith
-
-shared-slice-read-kept : tie.Need-shared-slice-read-kept Inv-loop μ-loop
-shared-slice-read-kept c = omega arith
-
-mul-kept-2 : tie.Need-mul-kept-2 Inv-loop μ-loop
-mul-kept-2 c = omega arith
-
-shared-slice-read-kept-2 : tie.Need-shared-slice-read-kept-2 Inv-loop μ-loop
-shared-slice-read-kept-2 c = omega arith
-
-kept-requires : tie.Need-kept-requires Inv-loop μ-loop
-kept-requires c κs = omega arith
-
-mul-word : tie.Need-mul-word Inv-loop μ-loop
-mul-word c = omega arith
-
-add-word : tie.Need-add-word Inv-loop μ-loop
-add-word c = omega arith
-
-cast-word : tie.Need-cast-word Inv-loop μ-loop
-cast-word c = omega arith
-
-better-requires : tie.Need-better-requires Inv-loop μ-loop
-better-requires c κs = search needs
 
 next-arc-requires : tie.Need-next-arc-requires Inv-loop μ-loop
 next-arc-requires c κs =
@@ -116,19 +83,11 @@ choose-spec =
     μ-loop
     first-arc-requires
     loop-holds
-    sub-j
-    mul-arc
+    (λ c. omega arith) (λ c. omega arith)
     shared-slice-read-arc
     cast-arc
-    mul-kept
-    shared-slice-read-kept
-    mul-kept-2
-    shared-slice-read-kept-2
-    kept-requires
-    mul-word
-    add-word
-    cast-word
-    better-requires
+    (λ c. omega arith) (λ c. omega arith) (λ c. omega arith) (λ c. omega arith) (λ c κs. omega arith) (λ c. omega arith) (λ c. omega arith)
+    (λ c. omega arith) (λ c κs. search needs)
     next-arc-requires
     loop-less
     loop-again

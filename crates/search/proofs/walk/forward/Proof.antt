@@ -24,22 +24,10 @@ Inv-loop arcs follow enter work seen out₀ n steps index at₀ states₀ t₀ o
 abbrev μ-loop : tie.MeasureT-loop
 μ-loop arcs follow enter work seen out₀ n steps index at₀ states₀ t₀ out at states t = steps - t
 
-index-by-left-requires : tie.Need-index-by-left-requires Inv-loop μ-loop
-index-by-left-requires c κs = search needs
-
 loop-holds : tie.Need-loop-holds Inv-loop μ-loop
 loop-holds c =
     let start = c .before .before .before .before .before .before .before in
     (omega arith, refl, refl, omega arith, λ g M ps f y l S K e. going-start g M y _ _ _ _ _ _ (start .pre .6) e)
-
-spread-requires : tie.Need-spread-requires Inv-loop μ-loop
-spread-requires c κs = omega arith
-
-sub-distance : tie.Need-sub-distance Inv-loop μ-loop
-sub-distance c = omega arith
-
-slice-aggregate-choose : tie.Need-slice-aggregate-choose Inv-loop μ-loop
-slice-aggregate-choose c = search needs
 
 choose-requires : tie.Need-choose-requires Inv-loop μ-loop
 choose-requires c κs =
@@ -47,21 +35,6 @@ choose-requires c κs =
     let p = at-loop .before .before .before .before .before .before .before .before .pre in
     let long : length (at-loop .before .index-by-left .result) ≡ 9216 = search needs in
     (p .0, long, p .2, p .3, p .4, p .5, at-loop .loop .inv .3, at-loop .before .index-by-left .ensures)
-
-mul-out : tie.Need-mul-out Inv-loop μ-loop
-mul-out c = omega arith
-
-slice-write-out : tie.Need-slice-write-out Inv-loop μ-loop
-slice-write-out c = omega arith
-
-cast-at : tie.Need-cast-at Inv-loop μ-loop
-cast-at c = omega arith
-
-add-t : tie.Need-add-t Inv-loop μ-loop
-add-t c = omega arith
-
-loop-less : tie.Need-loop-less Inv-loop μ-loop
-loop-less c = omega arith
 
 loop-again : tie.Need-loop-again Inv-loop μ-loop
 loop-again c =
@@ -95,17 +68,11 @@ forward-spec =
     (tie.spec
     Inv-loop
     μ-loop
-    index-by-left-requires
+    (λ c κs. search needs)
     loop-holds
-    spread-requires
-    sub-distance
-    slice-aggregate-choose
+    (λ c κs. omega arith) (λ c. omega arith) (λ c. search needs)
     choose-requires
-    mul-out
-    slice-write-out
-    cast-at
-    add-t
-    loop-less
+    (λ c. omega arith) (λ c. omega arith) (λ c. omega arith) (λ c. omega arith) (λ c. omega arith)
     loop-again
     same-length
     returns)

@@ -28,15 +28,6 @@ met-all : (c : tie.Else1)
     × (32 * treeUnit (start .args .n) ≤ length (start .args .work .now))
 met-all c = met _ _ _ _ _ (c .before .refusal .ensures) (c .if1 .left)
 
-array-share-prefix-no-links : tie.Need-array-share-prefix-no-links
-array-share-prefix-no-links c = search needs
-
-slice-aggregate-refusal : tie.Need-slice-aggregate-refusal
-slice-aggregate-refusal c = search needs
-
-refusal-requires : tie.Need-refusal-requires
-refusal-requires c κs = search needs
-
 returns : tie.Need-returns
 returns c =
     let a = c .before .before .before .before .before .before .before .args in
@@ -58,18 +49,6 @@ copy-u64-requires-2 c κs =
     let k : length (after-copy .copy-u64 .last .1 .0) ≡ length (start .args .work .now) = after-copy .copy-u64 .kept .1 .0 in
     omega (arith, k, formed-most (m .3 .0), formed-most (m .3 .1), m .4)
 
-tree-of-requires : tie.Need-tree-of-requires
-tree-of-requires c κs = search needs
-
-tree-of-requires-2 : tie.Need-tree-of-requires-2
-tree-of-requires-2 c κs = search needs
-
-array-share-prefix-no-links-2 : tie.Need-array-share-prefix-no-links-2
-array-share-prefix-no-links-2 c = search needs
-
-slice-aggregate-made : tie.Need-slice-aggregate-made
-slice-aggregate-made c = search needs
-
 made-requires : tie.Need-made-requires
 made-requires c κs =
     let after-tree-of = c .before .before .before in
@@ -90,12 +69,6 @@ settle-requires c κs =
     let after-copy2 = after-made .before .before .before .before .before .before .before in
     let k : length (after-made .made .last .1 .0) ≡ length (after-copy2 .copy-u642 .last .1 .0) = after-made .made .kept .1 .0 in
     omega (arith, k, after-made .made .ensures .0)
-
-same-length : tie.Need-same-length
-same-length c = search needs
-
-same-length-2 : tie.Need-same-length-2
-same-length-2 c = search needs
 
 returns-2 : tie.Need-returns-2
 returns-2 c =
@@ -124,18 +97,12 @@ pub binary-spec : {M : Type 1} → statement M
 binary-spec =
     tie.close
     (tie.spec
-    array-share-prefix-no-links
-    slice-aggregate-refusal
-    refusal-requires
+    (λ c. search needs) (λ c. search needs) (λ c κs. search needs)
     returns
     copy-u64-requires
     copy-u64-requires-2
-    tree-of-requires
-    tree-of-requires-2
-    array-share-prefix-no-links-2
-    slice-aggregate-made
+    (λ c κs. search needs) (λ c κs. search needs) (λ c. search needs) (λ c. search needs)
     made-requires
     settle-requires
-    same-length
-    same-length-2
+    (λ c. search needs) (λ c. search needs)
     returns-2)

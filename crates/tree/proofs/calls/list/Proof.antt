@@ -22,18 +22,6 @@ none : (c : tie.Else1)
     × (WellFormed (start .args .n) (start .args .a .now) × WellFormed (start .args .n) []) × (32 * treeUnit (start .args .n) ≤ length (start .args .work .now))
 none c = met _ _ _ _ _ (c .before .refusal .ensures) (c .if1 .left)
 
-array-share-prefix-none : tie.Need-array-share-prefix-none
-array-share-prefix-none c = search needs
-
-slice-aggregate-refusal : tie.Need-slice-aggregate-refusal
-slice-aggregate-refusal c = search needs
-
-slice-aggregate-refusal-2 : tie.Need-slice-aggregate-refusal-2
-slice-aggregate-refusal-2 c = search needs
-
-refusal-requires : tie.Need-refusal-requires
-refusal-requires c κs = search needs
-
 returns : tie.Need-returns
 returns c =
     let a = c .before .before .before .before .before .before .before .args in
@@ -44,9 +32,6 @@ list-pairs-requires : tie.Need-list-pairs-requires
 list-pairs-requires c κs =
     let start = c .before .before .before .before .before .before .before .before in
     let m = none (c .before) in (m .1, omega (arith, formed-most (m .3 .0), treeUnit-most (start .args .n) (m .1)))
-
-same-length : tie.Need-same-length
-same-length c = search needs
 
 returns-2 : tie.Need-returns-2
 returns-2 c =
@@ -61,11 +46,8 @@ pub list-spec : {M : Type 1} → statement M
 list-spec =
     tie.close
     (tie.spec
-    array-share-prefix-none
-    slice-aggregate-refusal
-    slice-aggregate-refusal-2
-    refusal-requires
+    (λ c. search needs) (λ c. search needs) (λ c. search needs) (λ c κs. search needs)
     returns
     list-pairs-requires
-    same-length
+    (λ c. search needs)
     returns-2)

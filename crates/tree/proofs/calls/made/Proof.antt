@@ -7,18 +7,6 @@ use Rattle.tree.proofs.OperationLaws.{none-lent, none-tree-at}
 use Rattle.tree.proofs.calls.made.Statement.{statement}
 use Rattle.tree.proofs.calls.made.Tie as tie
 
-slice-aggregate-operate : tie.Need-slice-aggregate-operate
-slice-aggregate-operate c = search needs
-
-slice-aggregate-operate-2 : tie.Need-slice-aggregate-operate-2
-slice-aggregate-operate-2 c = search needs
-
-operate-requires : tie.Need-operate-requires
-operate-requires c κs = search needs
-
-same-length : tie.Need-same-length
-same-length c = search needs
-
 returns : tie.Need-returns
 returns c =
     let after-operate = c .before .before .before in
@@ -35,8 +23,5 @@ pub made-spec : {M : Type 1} → statement M
 made-spec =
     tie.close
     (tie.spec
-    slice-aggregate-operate
-    slice-aggregate-operate-2
-    operate-requires
-    same-length
+    (λ c. search needs) (λ c. search needs) (λ c κs. search needs) (λ c. search needs)
     returns)

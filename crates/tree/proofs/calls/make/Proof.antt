@@ -28,23 +28,11 @@ met-all : (c : tie.Else1)
     × (WellFormed (start .args .n) [] × WellFormed (start .args .n) []) × (32 * treeUnit (start .args .n) ≤ length (start .args .work .now))
 met-all c = met _ _ _ _ _ (c .before .refusal .ensures) (c .if1 .left)
 
-array-share-prefix-none : tie.Need-array-share-prefix-none
-array-share-prefix-none c = search needs
-
-slice-aggregate-empty : tie.Need-slice-aggregate-empty
-slice-aggregate-empty c = search needs
-
-refusal-requires : tie.Need-refusal-requires
-refusal-requires c κs = search needs
-
 returns : tie.Need-returns
 returns c =
     let a = c .before .before .before .before .before .before .args in
     refuse (a .n) (a .pairs .now) [] (length (a .work .now)) (treeOf (a .n) (a .pairs .now)) (a .out .now) (a .out .now) _
     (c .before .refusal .ensures ∙ as-good (a .n) (a .pairs .now) _ _ (length (a .work .now)) (none-more (a .n))) (c .if1 .taken) refl
-
-no-operand-requires : tie.Need-no-operand-requires
-no-operand-requires c κs = search needs
 
 made-requires : tie.Need-made-requires
 made-requires c κs =
@@ -58,12 +46,6 @@ settle-requires c κs =
     let start = after-made .before .before .before .before .before .before .before .before .before in
     let k : length (after-made .made .last .1 .0) ≡ length (start .args .work .now) = after-made .made .kept .1 .0 in
     omega (arith, k, after-made .made .ensures .0)
-
-same-length : tie.Need-same-length
-same-length c = search needs
-
-same-length-2 : tie.Need-same-length-2
-same-length-2 c = search needs
 
 returns-2 : tie.Need-returns-2
 returns-2 c =
@@ -89,13 +71,10 @@ pub make-spec : {M : Type 1} → statement M
 make-spec =
     tie.close
     (tie.spec
-    array-share-prefix-none
-    slice-aggregate-empty
-    refusal-requires
+    (λ c. search needs) (λ c. search needs) (λ c κs. search needs)
     returns
-    no-operand-requires
+    (λ c κs. search needs)
     made-requires
     settle-requires
-    same-length
-    same-length-2
+    (λ c. search needs) (λ c. search needs)
     returns-2)

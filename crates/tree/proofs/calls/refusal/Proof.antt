@@ -36,17 +36,11 @@ returns-2 c =
     let a = c .before .before .before .before .before .args in
     sym (lent-size (a .n) _ _ _ (rw (le-ltb (a .n) 1 (omega arith), lt-ltb maxRecords (a .n) (omega arith)) refl))
 
-pairs-below-requires : tie.Need-pairs-below-requires
-pairs-below-requires c κs = search needs
-
 returns-3 : tie.Need-returns-3
 returns-3 c =
     let a = c .before .before .before .before .before .before .before .args in
     sym (lent-pairs (a .n) _ _ _ (omega arith) (omega arith) (sym (below-test _ _ _ (c .before .pairs-below .ensures))
     ∙ not-true (c .before .pairs-below .result) (c .if3 .taken)))
-
-well-formed-requires : tie.Need-well-formed-requires
-well-formed-requires c κs = search needs
 
 returns-4 : tie.Need-returns-4
 returns-4 c =
@@ -55,18 +49,12 @@ returns-4 c =
     (first-bad (a .n) (a .a .now) (a .b .now) (sym (formed-test _ _ _ (c .before .well-formed .ensures))
     ∙ not-true (c .before .well-formed .result) (c .if4 .taken))))
 
-well-formed-requires-2 : tie.Need-well-formed-requires-2
-well-formed-requires-2 c κs = search needs
-
 returns-5 : tie.Need-returns-5
 returns-5 c =
     let a = c .before .before .before .before .before .before .before .before .before .before .before .args in
     sym (lent-trees (a .n) _ _ _ (omega arith) (omega arith) (below (c .before .before .before .before))
     (second-bad (a .n) (a .a .now) (a .b .now) (first (c .before .before))
     (sym (formed-test _ _ _ (c .before .well-formed2 .ensures)) ∙ not-true (c .before .well-formed2 .result) (c .if5 .taken))))
-
-tree-unit-requires : tie.Need-tree-unit-requires
-tree-unit-requires c κs = search needs
 
 mul-if6 : tie.Need-mul-if6
 mul-if6 c = omega (arith, c .tree-unit .ensures .2)
@@ -95,13 +83,13 @@ refusal-spec =
     (tie.spec
     returns
     returns-2
-    pairs-below-requires
+    (λ c κs. search needs)
     returns-3
-    well-formed-requires
+    (λ c κs. search needs)
     returns-4
-    well-formed-requires-2
+    (λ c κs. search needs)
     returns-5
-    tree-unit-requires
+    (λ c κs. search needs)
     mul-if6
     returns-6
     returns-7)

@@ -17,9 +17,6 @@ slice-aggregate-copy-u64 c = rw length-take (omega arith)
 copy-u64-requires : tie.Need-copy-u64-requires
 copy-u64-requires c κs = rw length-take (omega arith)
 
-same-length : tie.Need-same-length
-same-length c = search needs
-
 returns-2 : tie.Need-returns-2
 returns-2 c =
     let start = c .before .before .before .before .before .before .before .before in
@@ -27,4 +24,4 @@ returns-2 c =
     settled (a .work .now) (a .len) (a .out .now) _ (start .pre) (omega arith) (c .before .before .copy-u64 .ensures .contents)
 
 pub settle-spec : {M : Type 1} → statement M
-settle-spec = tie.close (tie.spec returns slice-aggregate-copy-u64 copy-u64-requires same-length returns-2)
+settle-spec = tie.close (tie.spec returns slice-aggregate-copy-u64 copy-u64-requires (λ c. search needs) returns-2)

@@ -9,19 +9,10 @@ use Rattle.tree.proofs.AnswerLaws.{answer-as}
 use Rattle.tree.proofs.calls.transpose.Statement.{statement}
 use Rattle.tree.proofs.calls.transpose.Tie as tie
 
-unary-requires : tie.Need-unary-requires
-unary-requires c κs = search needs
-
-same-length : tie.Need-same-length
-same-length c = search needs
-
-same-length-2 : tie.Need-same-length-2
-same-length-2 c = search needs
-
 returns : tie.Need-returns
 returns c =
     let a = c .before .before .before .before .before .before .before .before .before .before .args in
     answer-as (ap (treeWords (a .n)) (union-none (transpose (setIn (a .n) (a .a .now))))) (c .before .before .before .before .unary .ensures)
 
 pub transpose-spec : {M : Type 1} → statement M
-transpose-spec = tie.close (tie.spec unary-requires same-length same-length-2 returns)
+transpose-spec = tie.close (tie.spec (λ c κs. search needs) (λ c. search needs) (λ c. search needs) returns)

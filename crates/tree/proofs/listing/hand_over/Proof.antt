@@ -10,15 +10,6 @@ use Rattle.answers.specs.ListingLaws.{shown-over}
 use Rattle.tree.proofs.listing.hand_over.Statement.{statement}
 use Rattle.tree.proofs.listing.hand_over.Tie as tie
 
-count-pairs-requires : tie.Need-count-pairs-requires
-count-pairs-requires c κs = search needs
-
-write-pairs-requires : tie.Need-write-pairs-requires
-write-pairs-requires c κs = search needs
-
-same-length : tie.Need-same-length
-same-length c = search needs
-
 returns : tie.Need-returns
 returns c =
     let after-write-pairs = c .before .before in
@@ -29,4 +20,4 @@ returns c =
     part-given xs (a .out .now) _ _ k (after-write-pairs .write-pairs .ensures ∙ shown-over xs (a .out .now))
 
 pub hand-over-spec : {M : Type 1} → statement M
-hand-over-spec = tie.close (tie.spec count-pairs-requires write-pairs-requires same-length returns)
+hand-over-spec = tie.close (tie.spec (λ c κs. search needs) (λ c κs. search needs) (λ c. search needs) returns)

@@ -8,98 +8,38 @@ use Rattle.tree.specs.InnerLaws.{valued-set}
 use Rattle.tree.proofs.operations.combine.Statement.{statement}
 use Rattle.tree.proofs.operations.combine.Tie as tie
 
-enum-told : tie.Need-enum-told
-enum-told c = search needs
-
-load-requires : tie.Need-load-requires
-load-requires c κs = search needs
-
-enum-told-2 : tie.Need-enum-told-2
-enum-told-2 c = search needs
-
 with-second-requires : tie.Need-with-second-requires
 with-second-requires c κs =
     let start = c .before .before .before .before .before .before .before .before .before in
     (start .pre .0, rw (c .before .enum-told2 .given .1) intersects, start .pre .2)
-
-enum-told-3 : tie.Need-enum-told-3
-enum-told-3 c = search needs
 
 with-second-requires-2 : tie.Need-with-second-requires-2
 with-second-requires-2 c κs =
     let start = c .before .before .before .before .before .before .before .before .before in
     (start .pre .0, rw (c .before .enum-told3 .given .1) differs, start .pre .2)
 
-enum-told-4 : tie.Need-enum-told-4
-enum-told-4 c = search needs
-
 with-second-requires-3 : tie.Need-with-second-requires-3
 with-second-requires-3 c κs =
     let start = c .before .before .before .before .before .before .before .before .before in
     (start .pre .0, rw (c .before .enum-told4 .given .1) multiplies, start .pre .2)
 
-enum-told-5 : tie.Need-enum-told-5
-enum-told-5 c = search needs
-
-load-requires-2 : tie.Need-load-requires-2
-load-requires-2 c κs = search needs
-
-close-rows-requires : tie.Need-close-rows-requires
-close-rows-requires c κs = search needs
-
-enum-told-6 : tie.Need-enum-told-6
-enum-told-6 c = search needs
-
-load-requires-3 : tie.Need-load-requires-3
-load-requires-3 c κs = search needs
-
-set-diagonal-requires : tie.Need-set-diagonal-requires
-set-diagonal-requires c κs = search needs
-
-enum-told-7 : tie.Need-enum-told-7
-enum-told-7 c = search needs
-
-load-requires-4 : tie.Need-load-requires-4
-load-requires-4 c κs = search needs
-
-close-rows-requires-2 : tie.Need-close-rows-requires-2
-close-rows-requires-2 c κs = search needs
-
-set-diagonal-requires-2 : tie.Need-set-diagonal-requires-2
-set-diagonal-requires-2 c κs = search needs
-
-same-length : tie.Need-same-length
-same-length c = search needs
-
 returns : tie.Need-returns
 returns c = λ a b ia ib e l ra. rw (c .before .before .before .before .enum-told .given .1) (c .before .before .load .ensures b a ib e ra)
-
-same-length-2 : tie.Need-same-length-2
-same-length-2 c = search needs
 
 returns-2 : tie.Need-returns-2
 returns-2 c =
     let start = c .before .before .before .before .before .before .before .before .before .before .before .before in
     λ a b ia ib e l ra. c .before .before .with-second .ensures a b (bitAt (start .args .used .now)) ia ib e l ra
 
-same-length-3 : tie.Need-same-length-3
-same-length-3 c = search needs
-
 returns-3 : tie.Need-returns-3
 returns-3 c =
     let start = c .before .before .before .before .before .before .before .before .before .before .before .before in
     λ a b ia ib e l ra. c .before .before .with-second2 .ensures a b (bitAt (start .args .used .now)) ia ib e l ra
 
-same-length-4 : tie.Need-same-length-4
-same-length-4 c = search needs
-
 returns-4 : tie.Need-returns-4
 returns-4 c =
     let start = c .before .before .before .before .before .before .before .before .before .before .before .before in
     λ a b ia ib e l ra. c .before .before .with-second3 .ensures a b (bitAt (start .args .used .now)) ia ib e l ra
-
-same-length-5 : tie.Need-same-length-5
-same-length-5 c = search needs
 
 returns-5 : tie.Need-returns-5
 returns-5 c =
@@ -111,9 +51,6 @@ returns-5 c =
     let i = union-set (g .n) a s ia (valued-set (g .n) (g .links .now) (g .term .second) b (start .pre .0 .size) ib l) in
     rw (after-load2 .before .before .enum-told5 .given .1) (c .before .before .close-rows .ensures (union a s) i (after-load2 .load2 .ensures b a ib e ra))
 
-same-length-6 : tie.Need-same-length-6
-same-length-6 c = search needs
-
 returns-6 : tie.Need-returns-6
 returns-6 c =
     let after-load3 = c .before .before .before .before .before .before in
@@ -122,9 +59,6 @@ returns-6 c =
     λ a b ia ib e l ra.
     let s : Cells = valued (g .links .now) (g .term .second) b in
     rw (after-load3 .before .before .enum-told6 .given .1) (c .before .before .set-diagonal .ensures (union a s) (after-load3 .load3 .ensures b a ib e ra))
-
-same-length-7 : tie.Need-same-length-7
-same-length-7 c = search needs
 
 returns-7 : tie.Need-returns-7
 returns-7 c =
@@ -142,35 +76,24 @@ pub combine-spec : {M : Type 1} → statement M
 combine-spec =
     tie.close
     (tie.spec
-    enum-told
-    load-requires
-    enum-told-2
+    (λ c. search needs) (λ c κs. search needs) (λ c. search needs)
     with-second-requires
-    enum-told-3
+    (λ c. search needs)
     with-second-requires-2
-    enum-told-4
+    (λ c. search needs)
     with-second-requires-3
-    enum-told-5
-    load-requires-2
-    close-rows-requires
-    enum-told-6
-    load-requires-3
-    set-diagonal-requires
-    enum-told-7
-    load-requires-4
-    close-rows-requires-2
-    set-diagonal-requires-2
-    same-length
+    (λ c. search needs) (λ c κs. search needs) (λ c κs. search needs) (λ c. search needs) (λ c κs. search needs) (λ c κs. search needs)
+    (λ c. search needs) (λ c κs. search needs) (λ c κs. search needs) (λ c κs. search needs) (λ c. search needs)
     returns
-    same-length-2
+    (λ c. search needs)
     returns-2
-    same-length-3
+    (λ c. search needs)
     returns-3
-    same-length-4
+    (λ c. search needs)
     returns-4
-    same-length-5
+    (λ c. search needs)
     returns-5
-    same-length-6
+    (λ c. search needs)
     returns-6
-    same-length-7
+    (λ c. search needs)
     returns-7)

@@ -5,13 +5,10 @@ use Rattle.packing.specs.declared.loading.Sense.{Sense}
 use Rattle.tree.proofs.operations.inverted.Statement.{statement}
 use Rattle.tree.proofs.operations.inverted.Tie as tie
 
-turned-requires : tie.Need-turned-requires
-turned-requires c κs = search needs
-
 returns : tie.Need-returns
 returns c =
     let o = c .before .args .operand in
-    ap (λ (s : Sense). record { size = o .size; sense = s; forward = o .forward; against = o .against }) (c .turned .ensures)
+    ap (λ (s : Sense). record { size = o .size; sense = s; forward = o .forward; against = o .against }) (c .opposite .ensures)
 
 pub inverted-spec : {M : Type 1} → statement M
-inverted-spec = tie.close (tie.spec turned-requires returns)
+inverted-spec = tie.close (tie.spec (λ c κs. search needs) returns)

@@ -8,15 +8,6 @@ use Rattle.tree.proofs.OperationLaws.{both-loaded}
 use Rattle.tree.proofs.operations.load.Statement.{statement}
 use Rattle.tree.proofs.operations.load.Tie as tie
 
-load-tree-requires : tie.Need-load-tree-requires
-load-tree-requires c κs = search needs
-
-put-links-requires : tie.Need-put-links-requires
-put-links-requires c κs = search needs
-
-same-length : tie.Need-same-length
-same-length c = search needs
-
 returns : tie.Need-returns
 returns c =
     let after-load-tree = c .before .before .before .before .before .before in
@@ -25,4 +16,4 @@ returns c =
     ∙ ap flat (both-loaded (g .links .now) (g .operand) a x)
 
 pub load-spec : {M : Type 1} → statement M
-load-spec = tie.close (tie.spec load-tree-requires put-links-requires same-length returns)
+load-spec = tie.close (tie.spec (λ c κs. search needs) (λ c κs. search needs) (λ c. search needs) returns)

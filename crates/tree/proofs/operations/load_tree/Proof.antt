@@ -15,30 +15,12 @@ returns c =
     let g = c .before .before .before .before .args in
     λ a x is e r. r ∙ ap flat (no-tree (g .operand .sense) (g .n) (g .operand .size) (g .at) (g .work .now) a x is (c .if1 .taken) e)
 
-add-end : tie.Need-add-end
-add-end c = search needs
-
-mul-load : tie.Need-mul-load
-mul-load c = search needs
-
-sub-load : tie.Need-sub-load
-sub-load c = search needs
-
-part-load-start : tie.Need-part-load-start
-part-load-start c = search needs
-
-part-load-end : tie.Need-part-load-end
-part-load-end c = search needs
-
 load-requires : tie.Need-load-requires
 load-requires c κs =
     let start = c .before .before .before .before .before .before .before in
     let a = start .args in
     let p = start .pre in
     (p .0, rw length-take (omega (arith, treeUnit-most (a .n) (p .0))), p .3)
-
-same-length : tie.Need-same-length
-same-length c = search needs
 
 returns-2 : tie.Need-returns-2
 returns-2 c =
@@ -51,11 +33,7 @@ load-tree-spec =
     tie.close
     (tie.spec
     returns
-    add-end
-    mul-load
-    sub-load
-    part-load-start
-    part-load-end
+    (λ c. search needs) (λ c. search needs) (λ c. search needs) (λ c. search needs) (λ c. search needs)
     load-requires
-    same-length
+    (λ c. search needs)
     returns-2)

@@ -13,9 +13,6 @@ use Rattle.tree.proofs.OperationLaws.{told-room, tree-at, pack-room}
 use Rattle.tree.proofs.operations.operate.Statement.{statement}
 use Rattle.tree.proofs.operations.operate.Tie as tie
 
-outcome-rows-requires : tie.Need-outcome-rows-requires
-outcome-rows-requires c κs = search needs
-
 -- there was room
 roomy : (c : tie.Then1)
     → let start = c .before .before .before .before .before .before .before .before .before .before in
@@ -30,12 +27,6 @@ pack-requires c κs =
     let k : length (after-outcome-rows .outcome-rows .last .1 .1 .1 .1 .1 .0) ≡ length (g .rows .now) =
     after-outcome-rows .outcome-rows .kept .1 .1 .1 .1 .1 .0 in
     (k ∙ p .bits, p .trees .size, pack-room (g .n) (g .term) (length (g .work .now)) (p .trees))
-
-same-length : tie.Need-same-length
-same-length c = search needs
-
-same-length-2 : tie.Need-same-length-2
-same-length-2 c = search needs
 
 returns : tie.Need-returns
 returns c =
@@ -54,12 +45,6 @@ returns c =
       left = λ f. absurd (f p);
     }
 
-same-length-3 : tie.Need-same-length-3
-same-length-3 c = search needs
-
-same-length-4 : tie.Need-same-length-4
-same-length-4 c = search needs
-
 returns-2 : tie.Need-returns-2
 returns-2 c =
     let f : (Room _ _ _ _ _ → ⊥) = λ r. both-absurd (c .if1 .left) (c .before .before .before .outcome-rows .ensures .done r) in
@@ -69,11 +54,9 @@ pub operate-spec : {M : Type 1} → statement M
 operate-spec =
     tie.close
     (tie.spec
-    outcome-rows-requires
+    (λ c κs. search needs)
     pack-requires
-    same-length
-    same-length-2
+    (λ c. search needs) (λ c. search needs)
     returns
-    same-length-3
-    same-length-4
+    (λ c. search needs) (λ c. search needs)
     returns-2)

@@ -13,9 +13,6 @@ use Rattle.tree.proofs.OperationLaws.{from-none}
 use Rattle.tree.proofs.operations.outcome_rows.Statement.{statement}
 use Rattle.tree.proofs.operations.outcome_rows.Tie as tie
 
-room-requires : tie.Need-room-requires
-room-requires c κs = search needs
-
 returns : tie.Need-returns
 returns c =
     let f : (Room _ _ _ _ _ → ⊥) = λ r. both-absurd (not-true (c .before .room .result) (c .if1 .taken)) (c .before .room .ensures .1 r) in
@@ -48,9 +45,6 @@ combine-requires c κs =
     let l : length (after-load .load .last .1 .1 .1 .1 .1 .0) ≡ length (after-clear .clear .last .0) = after-load .load .kept .1 .1 .1 .1 .1 .0 in
     (p .trees, p .records, l ∙ k ∙ p .bits)
 
-same-length : tie.Need-same-length
-same-length c = search needs
-
 returns-2 : tie.Need-returns-2
 returns-2 c =
     let after-load = c .before .before .before .before .before .before in
@@ -72,10 +66,10 @@ pub outcome-rows-spec : {M : Type 1} → statement M
 outcome-rows-spec =
     tie.close
     (tie.spec
-    room-requires
+    (λ c κs. search needs)
     returns
     clear-requires
     load-requires
     combine-requires
-    same-length
+    (λ c. search needs)
     returns-2)

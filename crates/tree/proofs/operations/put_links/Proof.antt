@@ -14,26 +14,8 @@ returns c =
     λ x r. r
     ∙ ap flat (no-letters (a .operand .sense) (a .links .now) (a .operand .forward) (a .operand .against) x (c .before .before .if1 .taken) (c .if2 .taken))
 
-enum-told : tie.Need-enum-told
-enum-told c = search needs
-
-put-letters-requires : tie.Need-put-letters-requires
-put-letters-requires c κs = search needs
-
-enum-told-2 : tie.Need-enum-told-2
-enum-told-2 c = search needs
-
-put-letters-requires-2 : tie.Need-put-letters-requires-2
-put-letters-requires-2 c κs = search needs
-
-same-length : tie.Need-same-length
-same-length c = search needs
-
 returns-2 : tie.Need-returns-2
 returns-2 c = λ x r. rw (c .before .before .before .before .enum-told .given .1) (c .before .before .put-letters .ensures x r)
-
-same-length-2 : tie.Need-same-length-2
-same-length-2 c = search needs
 
 returns-3 : tie.Need-returns-3
 returns-3 c =
@@ -47,11 +29,7 @@ put-links-spec =
     tie.close
     (tie.spec
     returns
-    enum-told
-    put-letters-requires
-    enum-told-2
-    put-letters-requires-2
-    same-length
+    (λ c. search needs) (λ c κs. search needs) (λ c. search needs) (λ c κs. search needs) (λ c. search needs)
     returns-2
-    same-length-2
+    (λ c. search needs)
     returns-3)

@@ -16,9 +16,6 @@ returns-2 c = (λ e. false-absurd e, λ r. absurd (omega (arith, r .records)))
 returns-3 : tie.Need-returns-3
 returns-3 c = (λ e. false-absurd e, λ r. absurd (omega (arith, r .bits)))
 
-tree-unit-requires : tie.Need-tree-unit-requires
-tree-unit-requires c κs = search needs
-
 returns-4 : tie.Need-returns-4
 returns-4 c =
     let u = c .before .before .before .before .tree-unit in
@@ -56,7 +53,7 @@ room-spec =
     returns
     returns-2
     returns-3
-    tree-unit-requires
+    (λ c κs. search needs)
     returns-4
     returns-5
     mul-result

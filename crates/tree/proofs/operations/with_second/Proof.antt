@@ -12,45 +12,6 @@ use Rattle.tree.proofs.OperationLaws.{rows-none, from-none, not-apart}
 use Rattle.tree.proofs.operations.with_second.Statement.{statement}
 use Rattle.tree.proofs.operations.with_second.Tie as tie
 
-enum-told : tie.Need-enum-told
-enum-told c = search needs
-
-slice-aggregate-load : tie.Need-slice-aggregate-load
-slice-aggregate-load c = search needs
-
-load-requires : tie.Need-load-requires
-load-requires c κs = search needs
-
-slice-aggregate-intersect : tie.Need-slice-aggregate-intersect
-slice-aggregate-intersect c = search needs
-
-intersect-requires : tie.Need-intersect-requires
-intersect-requires c κs = search needs
-
-enum-told-2 : tie.Need-enum-told-2
-enum-told-2 c = search needs
-
-slice-aggregate-load-2 : tie.Need-slice-aggregate-load-2
-slice-aggregate-load-2 c = search needs
-
-load-requires-2 : tie.Need-load-requires-2
-load-requires-2 c κs = search needs
-
-slice-aggregate-minus : tie.Need-slice-aggregate-minus
-slice-aggregate-minus c = search needs
-
-minus-requires : tie.Need-minus-requires
-minus-requires c κs = search needs
-
-enum-told-3 : tie.Need-enum-told-3
-enum-told-3 c = search needs
-
-inverted-requires : tie.Need-inverted-requires
-inverted-requires c κs = search needs
-
-slice-aggregate-load-3 : tie.Need-slice-aggregate-load-3
-slice-aggregate-load-3 c = search needs
-
 -- the inverted operand has as many words
 as-long : (c : tie.After-inverted) → c .inverted .result .size ≡ c .before .before .before .before .before .before .before .before .args .term .second .size
 as-long c = ap (λ (o : Operand). o .size) (c .inverted .ensures)
@@ -61,27 +22,6 @@ load-requires-3 c κs =
     let e = as-long (c .before) in
     (p .size, omega (arith, e, p .second), omega (arith, e, p .first, p .second, p .work), refl)
 
-slice-aggregate-compose : tie.Need-slice-aggregate-compose
-slice-aggregate-compose c = search needs
-
-compose-requires : tie.Need-compose-requires
-compose-requires c κs = search needs
-
-enum-told-4 : tie.Need-enum-told-4
-enum-told-4 c = search needs
-
-enum-told-5 : tie.Need-enum-told-5
-enum-told-5 c = search needs
-
-enum-told-6 : tie.Need-enum-told-6
-enum-told-6 c = search needs
-
-enum-told-7 : tie.Need-enum-told-7
-enum-told-7 c = search needs
-
-same-length : tie.Need-same-length
-same-length c = search needs
-
 returns : tie.Need-returns
 returns c =
     let after-load = c .before .before .before .before .before .before in
@@ -89,18 +29,12 @@ returns c =
     rw (after-load .before .before .enum-told .given .1)
     (c .before .before .intersect .ensures a _ ra (from-none _ _ (after-load .load .ensures b noPairs ib e rows-none)))
 
-same-length-2 : tie.Need-same-length-2
-same-length-2 c = search needs
-
 returns-2 : tie.Need-returns-2
 returns-2 c =
     let after-load2 = c .before .before .before .before .before .before in
     λ a b u ia ib e l ra.
     rw (after-load2 .before .before .enum-told2 .given .1)
     (c .before .before .minus .ensures a _ ra (from-none _ _ (after-load2 .load2 .ensures b noPairs ib e rows-none)))
-
-same-length-3 : tie.Need-same-length-3
-same-length-3 c = search needs
 
 returns-3 : tie.Need-returns-3
 returns-3 c =
@@ -132,31 +66,14 @@ pub with-second-spec : {M : Type 1} → statement M
 with-second-spec =
     tie.close
     (tie.spec
-    enum-told
-    slice-aggregate-load
-    load-requires
-    slice-aggregate-intersect
-    intersect-requires
-    enum-told-2
-    slice-aggregate-load-2
-    load-requires-2
-    slice-aggregate-minus
-    minus-requires
-    enum-told-3
-    inverted-requires
-    slice-aggregate-load-3
+    (λ c. search needs) (λ c. search needs) (λ c κs. search needs) (λ c. search needs) (λ c κs. search needs) (λ c. search needs) (λ c. search needs)
+    (λ c κs. search needs) (λ c. search needs) (λ c κs. search needs) (λ c. search needs) (λ c κs. search needs) (λ c. search needs)
     load-requires-3
-    slice-aggregate-compose
-    compose-requires
-    enum-told-4
-    enum-told-5
-    enum-told-6
-    enum-told-7
-    same-length
+    (λ c. search needs) (λ c κs. search needs) (λ c. search needs) (λ c. search needs) (λ c. search needs) (λ c. search needs) (λ c. search needs)
     returns
-    same-length-2
+    (λ c. search needs)
     returns-2
-    same-length-3
+    (λ c. search needs)
     returns-3
     returns-4
     returns-5

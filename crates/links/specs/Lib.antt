@@ -1,0 +1,7 @@
+pub mod Links
+pub mod Ascending
+pub mod Totals
+pub mod Lookups
+pub mod LinkLaws
+pub mod AscendingLaws
+pub mod TotalLaws
