@@ -6,6 +6,14 @@ ghost use Rattle.book.specs.Causes.{maxRecords, maxLinks};
 ghost use Rattle.arcs.specs.Arcs.{maxArcs, arcOf, arcFrom, arcTo, Crossings, NoUse, PutIf};
 ghost use Rattle.arcs.specs.Index.{indexWords, keyAt, firstArc, nextArc, Indexed};
 
+// An arc's word is its letter, the record left and the record reached, each times its unit; a link's word has its label in the letter's place. A set of labels
+// has room for so many.
+pub const RECORD_UNIT: u32 = links::FROM_UNIT;
+
+pub const LETTER_UNIT: u32 = links::LABEL_UNIT;
+
+const LABEL_SETS: u32 = 32;
+
 // Each link may be crossed in two senses.
 pub const MAX_ARCS: usize = 2 * book::MAX_LINKS;
 
@@ -16,13 +24,13 @@ pub const INDEX_WORDS: usize = book::MAX_RECORDS + MAX_ARCS;
 fn arc(link: u32, sense: u32) -> u32
     ensures { λ r. ⌜ r ≡ arcOf link sense ⌝ }
 {
-    let label = link / 1048576 % 32;
-    let from = link / 1024 % 1024;
-    let to = link % 1024;
+    let label = link / LETTER_UNIT % LABEL_SETS;
+    let from = link / RECORD_UNIT % RECORD_UNIT;
+    let to = link % RECORD_UNIT;
     if sense == 0 {
-        return (label * 2 * 1024 + from) * 1024 + to;
+        return (label * 2 * RECORD_UNIT + from) * RECORD_UNIT + to;
     }
-    ((label * 2 + 1) * 1024 + to) * 1024 + from
+    ((label * 2 + 1) * RECORD_UNIT + to) * RECORD_UNIT + from
 }
 
 // The arc at the place `count`, if its letter enters a state. How many are there now?
@@ -44,7 +52,7 @@ fn next_of_use(links: &[u32], enter: &[u64], at: usize) -> usize
 {
     let mut i = at;
     while i < links.len() {
-        let letter = (links[i] / 1048576 % 32 * 2) as usize;
+        let letter = (links[i] / LETTER_UNIT % LABEL_SETS * 2) as usize;
         if enter[letter] != 0 {
             return i;
         }
@@ -66,7 +74,7 @@ pub fn arcs_of(links: &[u32], enter: &[u64], arcs: &mut [u32]) -> usize
     let mut i = next_of_use(links, enter, 0);
     while i < links.len() {
         let link = links[i];
-        let letter = (link / 1048576 % 32 * 2) as usize;
+        let letter = (link / LETTER_UNIT % LABEL_SETS * 2) as usize;
         count = put(arcs, count, arc(link, 0), enter[letter]);
         count = put(arcs, count, arc(link, 1), enter[letter + 1]);
         i = next_of_use(links, enter, i + 1);
@@ -88,7 +96,7 @@ fn index_of(arcs: &[u32], key: u32) -> [u16; INDEX_WORDS]
     let mut index = [0u16; INDEX_WORDS];
     let mut j = 0;
     while j < arcs.len() {
-        let record = ((arcs[j] >> key) % 1024) as usize;
+        let record = ((arcs[j] >> key) % RECORD_UNIT) as usize;
         index[book::MAX_RECORDS + j] = index[record];
         index[record] = (j + 1) as u16;
         j += 1;

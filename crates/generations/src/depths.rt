@@ -41,7 +41,7 @@ fn visit(links: &[u32], index: &[u16], y: usize, depths: &mut [u32]) -> u32
     let mut cursor = arcs::first_arc(index, y);
     while cursor != 0 {
         let j = cursor - 1;
-        let from = (links[j] / 1024 % 1024) as usize;
+        let from = (links[j] / links::FROM_UNIT % links::FROM_UNIT) as usize;
         let before = visit(links, index, from, depths);
         if before == ENTERED {
             return ENTERED;

@@ -40,10 +40,13 @@ const LINE_PAIRS: usize = 6;
 
 const PAGE_PAIRS: usize = 354;
 
-// The number after every pair word, and the lines of that many pairs.
-const PAIR_WORDS: usize = 1048576;
+// A pair word is from times this, and to.
+const PAIR_UNIT: u32 = book::MAX_RECORDS as u32;
 
-const PAST_PAIRS: u32 = 1048576;
+// The number after every pair word, and the lines of that many pairs.
+const PAIR_WORDS: usize = book::MAX_RECORDS * book::MAX_RECORDS;
+
+const PAST_PAIRS: u32 = PAIR_UNIT * PAIR_UNIT;
 
 const MOST_LINES: usize = 177726;
 
@@ -92,17 +95,17 @@ fn put_record(x: u32, out: &mut [u8], at: usize) -> usize
 
 // A pair.
 fn put_cell(w: u32, out: &mut [u8], at: usize) -> usize
-    requires { ⌜ (w < 1048576) × (at + 12 ≤ length (now out)) ⌝ }
+    requires { ⌜ (w < pairWords) × (at + 12 ≤ length (now out)) ⌝ }
     ensures { λ r. ⌜ Wrote at (pairCell w) (now (out .entry)) (now (out .exit)) r ⌝ }
 {
-    let next = put_record(w / 1024, out, at);
-    put_record(w % 1024, out, next)
+    let next = put_record(w / PAIR_UNIT, out, at);
+    put_record(w % PAIR_UNIT, out, next)
 }
 
 // The line of the first `count` words.
 fn put_pair_line(words: &[u32], count: usize, out: &mut [u8], at: usize) -> usize
-    requires { ⌜ (count ≤ 6) × (count ≤ length (now words)) × ((i : ℕ) → i < count → getD (now words) i 0 < 1048576)
-        × (at + 73 ≤ length (now out)) ⌝ }
+    requires { ⌜ (count ≤ linePairs) × (count ≤ length (now words)) × ((i : ℕ) → i < count → getD (now words) i 0 < pairWords)
+        × (at + lineBytes ≤ length (now out)) ⌝ }
     ensures { λ r. ⌜ Wrote at (pairLine (take count (now (words .entry)))) (now (out .entry)) (now (out .exit)) r ⌝ }
 {
     let mut end = at;
@@ -127,7 +130,7 @@ fn shown_bytes(len: usize) -> usize
 
 // The head of a page, the first being 0.
 fn put_head_line(text: &[u8], page: usize, out: &mut [u8], at: usize) -> usize
-    requires { ⌜ (page ≤ 177726) × (at + 73 ≤ length (now out)) ⌝ }
+    requires { ⌜ (page ≤ mostLines) × (at + lineBytes ≤ length (now out)) ⌝ }
     ensures { λ r. ⌜ Wrote at (headLine (now (text .entry)) page) (now (out .entry)) (now (out .exit)) r ⌝ }
 {
     let shown = shown_bytes(text.len());
@@ -139,7 +142,7 @@ fn put_head_line(text: &[u8], page: usize, out: &mut [u8], at: usize) -> usize
 
 // How many lines so many pairs take.
 fn lines_of(pairs: usize) -> usize
-    requires { ⌜ pairs ≤ 1048576 ⌝ }
+    requires { ⌜ pairs ≤ pairWords ⌝ }
     ensures { λ r. ⌜ r ≡ linesOf pairs ⌝ }
 {
     if pairs == 0 {
@@ -190,7 +193,7 @@ fn put_line(
         put_head_line(text, i / PAGE_LINES, out, LINE * i);
         return place;
     }
-    let mut words: [u32; 6] = [0; 6];
+    let mut words: [u32; LINE_PAIRS] = [0; LINE_PAIRS];
     let found = gather(cells, masks, n, place, &mut words);
     let count = found.count;
     put_pair_line(&words, count, out, LINE * i);
@@ -258,12 +261,12 @@ fn cell_at(pages: &[u8], at: usize) -> u32
     requires { ⌜ at + 12 ≤ length (now pages) ⌝ }
     ensures { λ r. ⌜ r ≡ cellWord (drop at (now (pages .entry))) ⌝ }
 {
-    record_at(pages, at) * 1024 + record_at(pages, at + RECORD_WIDTH + 1)
+    record_at(pages, at) * PAIR_UNIT + record_at(pages, at + RECORD_WIDTH + 1)
 }
 
 // The pair words of a line's cells, up to a blank one; how many.
 fn cells_at(pages: &[u8], at: usize, words: &mut [u32]) -> usize
-    requires { ⌜ (at + 73 ≤ length (now pages)) × (length (now words) ≡ 6) ⌝ }
+    requires { ⌜ (at + lineBytes ≤ length (now pages)) × (length (now words) ≡ 6) ⌝ }
     ensures { λ r. ⌜ (r ≤ 6) × (take r (now (words .exit)) ≡ cellWords 6 (drop at (now (pages .entry)))) ⌝ }
 {
     let mut k = 0;
@@ -280,7 +283,7 @@ fn cells_at(pages: &[u8], at: usize, words: &mut [u32]) -> usize
 
 // Is this the line of the pages?
 fn same_line(line: &[u8], pages: &[u8], at: usize) -> bool
-    requires { ⌜ (length (now line) ≡ 73) × (at + 73 ≤ length (now pages)) ⌝ }
+    requires { ⌜ (length (now line) ≡ 73) × (at + lineBytes ≤ length (now pages)) ⌝ }
     ensures { λ r. ⌜ (r ≡ true → take 73 (drop at (now (pages .entry))) ≡ now (line .entry))
         × (take 73 (drop at (now (pages .entry))) ≡ now (line .entry) → r ≡ true) ⌝ }
 {
@@ -296,7 +299,7 @@ fn same_line(line: &[u8], pages: &[u8], at: usize) -> bool
 
 // The number after the last of the first `count` words, if they ascend from `low` on and are pair words; otherwise one past all those.
 fn rising(words: &[u32], count: usize, low: u32) -> u32
-    requires { ⌜ (count ≤ length (now words)) × (low ≤ 1048576) ⌝ }
+    requires { ⌜ (count ≤ length (now words)) × (low ≤ pairWords) ⌝ }
     ensures { λ r. ⌜ Rising low (take count (now (words .entry))) r ⌝ }
 {
     let mut next = low;
@@ -317,7 +320,7 @@ fn rising(words: &[u32], count: usize, low: u32) -> u32
 
 // Is the line of the pages the head of this page?
 fn is_head(text: &[u8], page: usize, pages: &[u8], at: usize) -> bool
-    requires { ⌜ (page ≤ 177726) × (at + 73 ≤ length (now pages)) ⌝ }
+    requires { ⌜ (page ≤ mostLines) × (at + lineBytes ≤ length (now pages)) ⌝ }
     ensures { λ r. ⌜ (r ≡ true → take 73 (drop at (now (pages .entry))) ≡ headLine (now (text .entry)) page)
         × (take 73 (drop at (now (pages .entry))) ≡ headLine (now (text .entry)) page → r ≡ true) ⌝ }
 {
@@ -328,7 +331,8 @@ fn is_head(text: &[u8], page: usize, pages: &[u8], at: usize) -> bool
 
 // Is it the line of the first `count` words?
 fn is_pair_line(words: &[u32], count: usize, pages: &[u8], at: usize) -> bool
-    requires { ⌜ (count ≤ 6) × (count ≤ length (now words)) × ((i : ℕ) → i < count → getD (now words) i 0 < 1048576) × (at + 73 ≤ length (now pages)) ⌝ }
+    requires { ⌜ (count ≤ linePairs) × (count ≤ length (now words)) × ((i : ℕ) → i < count → getD (now words) i 0 < pairWords)
+        × (at + lineBytes ≤ length (now pages)) ⌝ }
     ensures { λ r. ⌜ (r ≡ true → take 73 (drop at (now (pages .entry))) ≡ pairLine (take count (now (words .entry))))
         × (take 73 (drop at (now (pages .entry))) ≡ pairLine (take count (now (words .entry))) → r ≡ true) ⌝ }
 {
@@ -356,7 +360,7 @@ fn least_pairs(i: usize, lines: usize) -> usize
 
 // Line i of so many, where the pairs before it are below `low`.
 fn check_line(text: &[u8], pages: &[u8], i: usize, lines: usize, low: u32) -> Checked
-    requires { ⌜ (i < lines) × (lines ≤ 177726) × (73 * lines ≤ length (now pages)) × (low ≤ 1048576) ⌝ }
+    requires { ⌜ (i < lines) × (lines ≤ mostLines) × (lineBytes * lines ≤ length (now pages)) × (low ≤ pairWords) ⌝ }
     ensures { λ r. ⌜ Line (now (text .entry)) (now (pages .entry)) i lines low (r .count) (r .next) ⌝ }
 {
     let fallen = Checked {
@@ -372,7 +376,7 @@ fn check_line(text: &[u8], pages: &[u8], i: usize, lines: usize, low: u32) -> Ch
         }
         return fallen;
     }
-    let mut words: [u32; 6] = [0; 6];
+    let mut words: [u32; LINE_PAIRS] = [0; LINE_PAIRS];
     let count = cells_at(pages, LINE * i, &mut words);
     if count < least_pairs(i, lines) {
         return fallen;
@@ -443,14 +447,14 @@ fn list_line(pages: &[u8], i: usize, list: &mut [u32], at: usize) -> usize
     if i % PAGE_LINES == 0 {
         return at;
     }
-    let mut words: [u32; 6] = [0; 6];
+    let mut words: [u32; LINE_PAIRS] = [0; LINE_PAIRS];
     let count = cells_at(pages, LINE * i, &mut words);
     put_words(&words, count, list, at)
 }
 
 // The pair words on all lines.
 fn list_lines(pages: &[u8], lines: usize, list: &mut [u32])
-    requires { ⌜ (73 * lines ≤ length (now pages)) × (length (wordsBefore (now pages) lines) ≤ length (now list)) ⌝ }
+    requires { ⌜ (lineBytes * lines ≤ length (now pages)) × (length (wordsBefore (now pages) lines) ≤ length (now list)) ⌝ }
     ensures { λ _. ⌜ now (list .exit) ≡ over (wordsBefore (now (pages .entry)) lines) (now (list .entry)) ⌝ }
 {
     let mut end = 0;

@@ -8,6 +8,9 @@ ghost use Rattle.report.specs.Report.{answerText, totalText};
 ghost use Rattle.answers.specs.Written.{Wrote};
 ghost use mathlib.Core.Path.{_≡_};
 
+// A pair word is from times this, and to; a step word its letter times this, and the record reached.
+const RECORD_UNIT: u32 = book::MAX_RECORDS as u32;
+
 pub fn put_byte(b: u8, out: &mut [u8], at: usize) -> usize
     requires { ⌜ at < length (now out) ⌝ }
     ensures { λ r. ⌜ Wrote at (b ∷ []) (now (out .entry)) (now (out .exit)) r ⌝ }
@@ -87,8 +90,8 @@ fn put_pair(w: u32, out: &mut [u8], at: usize) -> usize
     requires { ⌜ at + 13 ≤ length (now out) ⌝ }
     ensures { λ r. ⌜ Wrote at (pairLine w) (now (out .entry)) (now (out .exit)) r ⌝ }
 {
-    let next = put_decimal((w / 1024) as u64, out, at);
-    put_counted(b" ", (w % 1024) as u64, out, next)
+    let next = put_decimal((w / RECORD_UNIT) as u64, out, at);
+    put_counted(b" ", (w % RECORD_UNIT) as u64, out, next)
 }
 
 // How many labels there are, in the type of a word.
@@ -111,12 +114,12 @@ fn put_step(w: u32, out: &mut [u8], at: usize) -> usize
     ensures { λ r. ⌜ Wrote at (stepLine w) (now (out .entry)) (now (out .exit)) r ⌝ }
 {
     let head = [
-        label_letter(w / 1024 / 2),
+        label_letter(w / RECORD_UNIT / 2),
         b' ',
-        sense_sign(w / 1024 % 2),
+        sense_sign(w / RECORD_UNIT % 2),
         b' ',
     ];
-    put_counted(&head, (w % 1024) as u64, out, at)
+    put_counted(&head, (w % RECORD_UNIT) as u64, out, at)
 }
 
 // The number of pairs, and a line for each that is listed.

@@ -1,5 +1,8 @@
 // The levels backward from the end: the states from which it is so many steps away, each with its number in the lent work.
 // What the functions give is stated in specs/Levels.antt and specs/Frontiers.antt.
+use crate::LETTER_UNIT;
+use crate::LETTERS;
+use crate::RECORD_UNIT;
 use crate::Ends;
 use crate::Entry;
 use crate::Marks;
@@ -67,8 +70,8 @@ fn into(
     while cursor != 0 {
         let j = cursor - 1;
         let arc = arcs[j] as usize;
-        let from = arc / 1024 % 1024;
-        let before = spread(predecessors, entry.states & enter[arc / 1048576 % 64]);
+        let from = arc / RECORD_UNIT % RECORD_UNIT;
+        let before = spread(predecessors, entry.states & enter[arc / LETTER_UNIT % LETTERS]);
         let states = before & !seen[from];
         queued = add_states(
             next,

@@ -11,6 +11,13 @@ mod walk;
 pub use chain::first_chain;
 pub use reach::reached;
 
+// The units of an arc's word, and how many letters there may be.
+const RECORD_UNIT: usize = arcs::RECORD_UNIT as usize;
+
+const LETTER_UNIT: usize = arcs::LETTER_UNIT as usize;
+
+const LETTERS: usize = 64;
+
 // How many records there are, and the two that a chain joins.
 pub struct Ends {
     pub n: usize,

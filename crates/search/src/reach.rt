@@ -1,4 +1,7 @@
 // The search forward from one record, to every state that is come to. What the functions give is stated in specs/Reaching.antt.
+use crate::LETTER_UNIT;
+use crate::LETTERS;
+use crate::RECORD_UNIT;
 use crate::Entry;
 use crate::levels::add_states;
 use crate::states::spread;
@@ -46,9 +49,9 @@ fn out_of(
     while cursor != 0 {
         let j = cursor - 1;
         let arc = arcs[j] as usize;
-        let to = arc % 1024;
+        let to = arc % RECORD_UNIT;
         let old = seen[to];
-        let states = entry.states & enter[arc / 1048576 % 64] & !old;
+        let states = entry.states & enter[arc / LETTER_UNIT % LETTERS] & !old;
         seen[to] = old | states;
         queued = add_states(
             pending,

@@ -1,4 +1,7 @@
 // The walk forward from the start: at each record the smallest step that leads on. What the functions give is stated in specs/Steps.antt.
+use crate::LETTER_UNIT;
+use crate::LETTERS;
+use crate::RECORD_UNIT;
 use crate::Aim;
 use crate::Choice;
 use crate::Route;
@@ -71,8 +74,8 @@ fn choose(
     while cursor != 0 {
         let j = cursor - 1;
         let arc = arcs[j] as usize;
-        let to = arc % 1024;
-        let letter = arc / 1048576 % 64;
+        let to = arc % RECORD_UNIT;
+        let letter = arc / LETTER_UNIT % LETTERS;
         let states = kept(
             work,
             n,
@@ -80,7 +83,7 @@ fn choose(
             aim.follows & enter[letter] & seen[to],
             distance,
         );
-        let word = (letter * 1024 + to) as u32;
+        let word = (letter * RECORD_UNIT + to) as u32;
         best = better(best, Choice { word, states });
         cursor = arcs::next_arc(index, j);
     }
@@ -119,7 +122,7 @@ pub(crate) fn forward(
         };
         let choice = choose(arcs, &index, enter, work, seen, aim);
         out[t] = choice.word;
-        at = (choice.word % 1024) as usize;
+        at = (choice.word % arcs::RECORD_UNIT) as usize;
         states = choice.states;
         t += 1;
     }

@@ -24,6 +24,9 @@ ghost use Rattle.tree.specs.Inner.{treeAlone, outcome, Roomy, Lent, term
 ghost use Rattle.answers.specs.Answers.{Whole, FirstPart};
 ghost use Rattle.tree.specs.Calls.{senseOf, productSensed, lentCauses, Answered, Listed, treeOf, listOf, treeOfOne, treeOfTwo};
 
+// A pair word is from times this, and to.
+const PAIR_UNIT: u32 = book::MAX_RECORDS as u32;
+
 // Are both ends of each pair below n?
 fn pairs_below(pairs: &[u32], n: usize) -> bool
     ensures { λ r. ⌜ (r ≡ true → PairsBelow n (now (pairs .entry))) × (PairsBelow n (now (pairs .entry)) → r ≡ true) ⌝ }
@@ -31,10 +34,10 @@ fn pairs_below(pairs: &[u32], n: usize) -> bool
     let mut i = 0;
     while i < pairs.len() {
         let p = pairs[i];
-        if n <= (p / 1024) as usize {
+        if n <= (p / PAIR_UNIT) as usize {
             return false;
         }
-        if n <= (p % 1024) as usize {
+        if n <= (p % PAIR_UNIT) as usize {
             return false;
         }
         i += 1;
