@@ -1,11 +1,11 @@
 // The levels backward from the end: the states from which it is so many steps away, each with its number in the lent work.
 // What the functions give is stated in specs/Levels.antt and specs/Frontiers.antt.
-use crate::LETTER_UNIT;
-use crate::LETTERS;
-use crate::RECORD_UNIT;
 use crate::Ends;
 use crate::Entry;
+use crate::LETTER_UNIT;
+use crate::LETTERS;
 use crate::Marks;
+use crate::RECORD_UNIT;
 use crate::states::spread;
 ghost use mathlib.Core.Path.{_≡_};
 ghost use mathlib.Core.List.{List};
@@ -71,7 +71,10 @@ fn into(
         let j = cursor - 1;
         let arc = arcs[j] as usize;
         let from = arc / RECORD_UNIT % RECORD_UNIT;
-        let before = spread(predecessors, entry.states & enter[arc / LETTER_UNIT % LETTERS]);
+        let before = spread(
+            predecessors,
+            entry.states & enter[arc / LETTER_UNIT % LETTERS],
+        );
         let states = before & !seen[from];
         queued = add_states(
             next,

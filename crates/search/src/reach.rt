@@ -1,8 +1,8 @@
 // The search forward from one record, to every state that is come to. What the functions give is stated in specs/Reaching.antt.
+use crate::Entry;
 use crate::LETTER_UNIT;
 use crate::LETTERS;
 use crate::RECORD_UNIT;
-use crate::Entry;
 use crate::levels::add_states;
 use crate::states::spread;
 ghost use mathlib.Core.Path.{_≡_};

@@ -1,9 +1,9 @@
 // The walk forward from the start: at each record the smallest step that leads on. What the functions give is stated in specs/Steps.antt.
+use crate::Aim;
+use crate::Choice;
 use crate::LETTER_UNIT;
 use crate::LETTERS;
 use crate::RECORD_UNIT;
-use crate::Aim;
-use crate::Choice;
 use crate::Route;
 use crate::states::spread;
 ghost use mathlib.Core.Path.{_≡_};
