@@ -111,7 +111,7 @@ fn commit(
     next: &mut [u64],
     list: &[u16],
     mark: u64,
-    records: &mut [u16],
+    records: &mut [u32],
     masks: &mut [u64],
 )
     requires { ⌜ (length (now next) ≡ maxRecords) × (length (now records) ≡ maxRecords) × (length (now masks) ≡ maxRecords) × (length (now list) ≤ maxRecords)
@@ -127,7 +127,7 @@ fn commit(
         stamp(work, at, states, mark);
         seen[at] = seen[at] | states;
         next[at] = 0;
-        records[i] = list[i];
+        records[i] = list[i] as u32;
         masks[i] = states;
         i += 1;
     }
@@ -156,7 +156,7 @@ pub(crate) fn backward(
     seen[end] = accepting;
     let mut next = [0u64; book::MAX_RECORDS];
     let mut list = [0u16; book::MAX_RECORDS];
-    let mut records = [end as u16; book::MAX_RECORDS];
+    let mut records = [end as u32; book::MAX_RECORDS];
     let mut masks = [accepting; book::MAX_RECORDS];
     let mut count = 1;
     let mut level: u64 = 0;

@@ -14,14 +14,11 @@ ghost use Rattle.arcs.specs.Arcs.{maxArcs, arcFrom};
 ghost use Rattle.arcs.specs.Index.{indexWords, Indexed};
 ghost use Rattle.search.specs.Steps.{Kept, Chosen, Better, Walked};
 
-// Those of the states whose number at a record below n is the distance.
-fn kept(work: &[u64], n: usize, at: usize, states: u64, distance: u64) -> u64
-    requires { ⌜ (n * 64 ≤ length (now work)) × (n ≤ maxRecords) ⌝ }
+// Those of the states whose number at a record is the distance, each looked at.
+fn kept_each(work: &[u64], n: usize, at: usize, states: u64, distance: u64) -> u64
+    requires { ⌜ (n * 64 ≤ length (now work)) × (n ≤ maxRecords) × (at < n) ⌝ }
     ensures { λ r. ⌜ Kept (now (work .entry)) n at states distance 0 r ⌝ }
 {
-    if n <= at {
-        return 0;
-    }
     let mut found = 0;
     let mut left = states;
     while left != 0 {
@@ -32,6 +29,25 @@ fn kept(work: &[u64], n: usize, at: usize, states: u64, distance: u64) -> u64
         left = left & (left - 1);
     }
     found
+}
+
+// Those of the states whose number at a record below n is the distance: most often all of them, which then need not be gathered.
+fn kept(work: &[u64], n: usize, at: usize, states: u64, distance: u64) -> u64
+    requires { ⌜ (n * 64 ≤ length (now work)) × (n ≤ maxRecords) ⌝ }
+    ensures { λ r. ⌜ Kept (now (work .entry)) n at states distance 0 r ⌝ }
+{
+    if n <= at {
+        return 0;
+    }
+    let mut left = states;
+    while left != 0 {
+        let q = u64::trailing_zeros(left) as usize;
+        if work[at * 64 + q] != distance {
+            return kept_each(work, n, at, states, distance);
+        }
+        left = left & (left - 1);
+    }
+    states
 }
 
 // No step word: each is less.
