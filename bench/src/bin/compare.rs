@@ -36,8 +36,14 @@ fn main() -> ExitCode {
     }
 }
 
+fn names() -> String {
+    let names: Vec<_> = PEERS.iter().map(|peer| peer.name).collect();
+    names.join(", ")
+}
+
 /// Each of these gives the number of differences.
 fn tables(files: &[&str]) -> Result<usize, String> {
+    println!("systems: {}", names());
     let mut differences = 0;
     for file in files.iter().map(Path::new) {
         let (sheet, answers) = (Sheet::read(file)?, Answers::read(file)?);
@@ -54,8 +60,7 @@ fn check(files: &[&str]) -> Result<usize, String> {
         let (sheet, answers) = (Sheet::read(file)?, Answers::read(file)?);
         let found = compare(PEERS, &sheet, Some(&answers), true)?.differences;
         found.iter().for_each(|difference| println!("{difference}"));
-        let names: Vec<_> = PEERS.iter().map(|peer| peer.name).collect();
-        println!("{}: {} answers by {}, {} differences", sheet.name, sheet.questions.len(), names.join(" and "), found.len());
+        println!("{}: {} answers by {}, {} differences", sheet.name, sheet.questions.len(), names(), found.len());
         differences += found.len();
     }
     Ok(differences)

@@ -1,4 +1,5 @@
-// One row: a word or another row put in, the next column found, a column that another row has too. Word c of a row stands at its place + c.
+// These functions work on one row: they put a word or another row into it, find its next column, and find a column that another row has too. Word c of a row
+// stands at its place + c.
 use crate::words::above;
 use crate::words::join;
 use crate::words::lowest;
