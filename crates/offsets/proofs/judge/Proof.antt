@@ -32,8 +32,8 @@ use sound.WpLaws.{fmOf, WpFn-mono}
 use types.Kit.{Given, Item, ‵, raw, _⊛_, ⋆, anyQ, atRet, _$_, _∵_, !, qed, by, move, keep, use1, use2, drop as forgo, split, join, rewrite, fsplit}
 use types.Kit.{fjoin, suffices, frame, done}
 use types.Part.{whole, sub, look-in}
-use types.Run.{look, look-raw, store, init, forget, stop, hop, fld, from, load, lit, of-opd, bin, and-then, no-more, assigns, assigns-last, land, stays}
-use types.Run.{leaves-loop, returns, enter, alloc1, alloc0, params1, pass1, pass0, exec}
+use types.Run.{look, look-raw, store, init, forget, stop, hop, fld, from, load, lit, of-opd}
+use types.Run.{bin, and-then, no-more, stays, leaves-loop, returns, enter, alloc1, alloc0, params1, pass1, pass0, exec}
 use types.Share.{arr-parts}
 use denote.RattleType.{RattleType, owns}
 use denote.Laws.{Is, shows}
@@ -58,7 +58,8 @@ use borrow.Author.Tests.{lt-ltb, le-ltb}
 use Rattle.offsets.specs.Inner.{judgeTie, judgeAll}
 use Rattle.offsets.specs.declared.Tie.{Tie}
 use Rattle.offsets.proofs.TurnLaws.{none}
-use Rattle.offsets.proofs.WalkLaws.{cell, from-to, empty, holds, cells, frees-all, number, of-uint, answers, walks-list}
+use Rattle.offsets.proofs.WalkLaws.{cell, from-to, empty, holds, cells, frees-all, number, of-uint}
+use Rattle.offsets.proofs.WalkLaws.{answers, walks-list, held, hands, puts, puts-last, lands-in}
 use Rattle.offsets.proofs.Tie as T
 use Rattle.offsets.proofs.Tie.Laws as T′
 use Rattle.offsets.proofs.judged as judged
@@ -143,13 +144,9 @@ module _ {M : Type 1} (𝓤 : URA M) (H : Heap 𝓤) (A : Atoms 𝓤) (W : Given
 
   exits : (k : ℕ) → k < 2 ^ 32 → k ≡ Out → ent 𝓤 (⋆ 𝓤 H A (‵ (flft κ q) ∷ ‵ (flft κ′ q′) ∷ ‵ OwnT ∷ ‵ OwnS ∷ [])) (Post (vint w32 k))
   exits k fits e =
-      qed W (‵ (flft κ q) ∷ ‵ (flft κ′ q′) ∷ ‵ OwnT ∷ ‵ OwnS ∷ []) ∵
-      suffices ! _ (ends-at 𝓤 H A judge.ended stayed (judge.clauses 𝓤 H A at-mem run) W (
-        ((κ, (κ′, tt)), (q, (q′, tt)), tt, a, at),
-        tt,
-      ) (vint w32 k) k (tt, (tt, (tt, tt))) (tt, (tt, (tt, tt)))) $ says ! e $
-      nothing ! $ move ! (2 ∷ 0 ∷ []) $ join ! $ move ! (1 ∷ 0 ∷ []) $ join ! $ frame ! $
-      nothing ! $ number ! w16 m (refl, m-fits) $ move ! (2 ∷ 0 ∷ []) $ fjoin ! $
+      qed W (‵ (flft κ q) ∷ ‵ (flft κ′ q′) ∷ ‵ OwnT ∷ ‵ OwnS ∷ []) ∵ suffices ! _ (ends-at 𝓤 H A judge.ended stayed (judge.clauses 𝓤 H A at-mem run) W
+      (((κ, (κ′, tt)), (q, (q′, tt)), tt, a, at), tt) (vint w32 k) k (tt, (tt, (tt, tt))) (tt, (tt, (tt, tt)))) $ says ! e $ nothing ! $
+      move ! (2 ∷ 0 ∷ []) $ join ! $ move ! (1 ∷ 0 ∷ []) $ join ! $ frame ! $ nothing ! $ number ! w16 m (refl, m-fits) $ move ! (2 ∷ 0 ∷ []) $ fjoin ! $
       move ! (1 ∷ 0 ∷ []) $ fjoin ! $ frame ! $ owned ! u32 (Is u32) (uint-makes 𝓤 H A W w32) k _ (refl, fits) $ done !
 
   -- what `judged`'s triple binds outside: the words at their own lifetime, and numbers
@@ -184,14 +181,10 @@ module _ {M : Type 1} (𝓤 : URA M) (H : Heap 𝓤) (A : Atoms 𝓤) (W : Given
     goes : Is R t (vals t) → k < 2 ^ 32 → ent 𝓤 (sep 𝓤 (A .lft κ′ q′) (sem 𝓤 H A OwnS)) (Judged 𝓤 H A at-mem run .pre to-judged)
     goes is fits =
         let fields = LL.owed T.the-type T′.the-laws t _ is in
-        qed W (‵ (flft κ′ q′) ∷ ‵ OwnS ∷ []) ∵
-        nothing ! $ owned ! i32 (Is i32) (sint-makes 𝓤 H A W w32) (t .most) _ (refl, fields .1 .1 .1 .0 .1) $
+        qed W (‵ (flft κ′ q′) ∷ ‵ OwnS ∷ []) ∵ nothing ! $ owned ! i32 (Is i32) (sint-makes 𝓤 H A W w32) (t .most) _ (refl, fields .1 .1 .1 .0 .1) $
         fjoin ! $ owned ! i32 (Is i32) (sint-makes 𝓤 H A W w32) (t .least) _ (refl, fields .1 .1 .0 .1) $ fjoin ! $
-        number ! w16 (t .second) (refl, fields .1 .0 .1) $
-        number ! w16 (t .first) (refl, fields .0 .1) $
-        number ! w16 m (refl, m-fits) $ move ! (2 ∷ 0 ∷ []) $
-        fjoin ! $ number ! w32 k (refl, fits) $
-        nothing ! $ move ! (2 ∷ 0 ∷ []) $ join ! $ join ! $ frame ! $ done !
+        number ! w16 (t .second) (refl, fields .1 .0 .1) $ number ! w16 (t .first) (refl, fields .0 .1) $ number ! w16 m (refl, m-fits) $
+        move ! (2 ∷ 0 ∷ []) $ fjoin ! $ number ! w32 k (refl, fits) $ nothing ! $ move ! (2 ∷ 0 ∷ []) $ join ! $ join ! $ frame ! $ done !
 
   -- what is shown at the exit, to any claim Q that follows from it: with the function's own there antt would compare it whole at each step
   module _ (Q : Val → SProp 𝓤)
@@ -225,48 +218,40 @@ module _ {M : Type 1} (𝓤 : URA M) (H : Heap 𝓤) (A : Atoms 𝓤) (W : Given
     more i k X small fits then =
         qed W (At i k) ∵ exec ! C Λ En mir.turn-1 (anyQ (afterTurn 𝓤 H X Left)) $
         -- _7 = ties.len(); _8 = i < _7; the loop goes on
-        assigns ! (of-opd ! (load ! (from ! (fld ! refl (stop !))) (look-in ! (local 5 1) (sub ! 1 refl (whole !)))))
-        (from ! (stop !)) (init ! (local 5 7) refl (tt, record { fits = rt .0 })) $
-        assigns ! (bin ! (load ! (from ! (stop !)) (look ! (local 5 4) refl)) (load ! (from ! (stop !)) (look ! (local 5 7) refl)) tt)
-        (from ! (stop !)) (init ! (local 5 8) refl (tt, tt)) $
-        rewrite ! (local 5 8) (λ (u : Bool). ‵ (fat fullShare tyBool l₈ 0 (vbool u))) (lt-ltb i n small) refl $
-        stays ! (load ! (from ! (stop !)) (look ! (local 5 8) refl)) $
+        puts ! (of-opd ! (load ! (from ! (fld ! refl (stop !))) (look-in ! (local 5 1) (sub ! 1 refl (whole !)))))
+        (init ! (local 5 7) refl (tt, record { fits = rt .0 })) $
+        puts ! (bin ! (held ! (local 5 4) refl) (held ! (local 5 7) refl) tt) (init ! (local 5 8) refl (tt, tt)) $
+        rewrite ! (local 5 8) (λ (u : Bool). ‵ (fat fullShare tyBool l₈ 0 (vbool u))) (lt-ltb i n small) refl $ stays ! (held ! (local 5 8) refl) $
         -- _7 = i * 12; _9 = the place of ties[i]
-        assigns ! (bin ! (load ! (from ! (stop !)) (look ! (local 5 4) refl)) (lit ! tt) (record { fits = place-fits }))
-        (from ! (stop !)) (store ! (local 5 7) refl (tt, record { fits = place-fits })) $
-        assigns ! (bin ! (load ! (from ! (fld ! refl (stop !))) (look-in ! (local 5 1) (sub ! 0 refl (whole !)))) (load ! (from ! (stop !))
-        (look ! (local 5 7) refl)) tt) (from ! (stop !)) (init ! (local 5 9) refl (tt, tt)) $
-        rewrite ! (local 5 9) (λ (p : ℕ). ‵ (fat fullShare tyPtr l₉ 0 (vptr b p))) (sym (place-is 12 o i)) refl $
+        puts ! (bin ! (held ! (local 5 4) refl) (lit ! tt) (record { fits = place-fits })) (store ! (local 5 7) refl (tt, record { fits = place-fits })) $
+        puts ! (bin ! (load ! (from ! (fld ! refl (stop !))) (look-in ! (local 5 1) (sub ! 0 refl (whole !)))) (held ! (local 5 7) refl) tt)
+        (init ! (local 5 9) refl (tt, tt)) $ rewrite ! (local 5 9) (λ (p : ℕ). ‵ (fat fullShare tyPtr l₉ 0 (vptr b p))) (sym (place-is 12 o i)) refl $
         -- _10 = ties[i]: the borrow is looked into, the tie is taken out and copied, and all is put back
-        looks-slice ! tt R (Is R) (shows 𝓤 H A R) vals (LL.tells T.the-type T′.the-laws) (LL.copy T.the-type T′.the-copy 𝓤 H A W)
-        ts b o (λ p. elem-out ! R (Is R) (shows 𝓤 H A R) vals (LL.tells T.the-type T′.the-laws) p ts i none b o small (λ is.
+        looks-slice ! tt R (Is R) (shows 𝓤 H A R) vals (LL.tells T.the-type T′.the-laws) (LL.copy T.the-type T′.the-copy 𝓤 H A W) ts b o
+        (λ p. elem-out ! R (Is R) (shows 𝓤 H A R) vals (LL.tells T.the-type T′.the-laws) p ts i none b o small (λ is.
         -- [the tie's cell; what it owns; the others; the open borrow; the fractured borrow; the words' token; what the ties and the words own; the locals]
-        assigns ! (of-opd ! (load ! (from ! (hop ! (look ! (local 8 9) refl) (stop !))) (look-raw ! 0 refl)))
-        (from ! (stop !)) (init ! (local 8 10) refl (typed is)) $
+        puts ! (of-opd ! (load ! (from ! (hop ! (look ! (local 8 9) refl) (stop !))) (look-raw ! 0 refl))) (init ! (local 8 10) refl (typed is)) $
         elem-back ! R p ts i none (vals tie) b o small $ shuts-slice ! tt R p ts b o $
         -- t = _10. [the ties' token; the fractured borrow; the words' token; what the ties and the words own; the locals]
-        assigns ! (of-opd ! (load ! (from ! (stop !)) (look ! (local 5 10) refl))) (from ! (stop !)) (init ! (local 5 6) refl (typed is)) $
+        puts ! (of-opd ! (held ! (local 5 10) refl)) (init ! (local 5 6) refl (typed is)) $
         -- found = judged(found, state, n, t.first, t.second, t.least, t.most), with a copy of what the words own
         move ! (4 ∷ []) $ use1 W (‵ OwnS ⊛ ‵ OwnS) (shr-slice-copy 𝓤 H A W (named 1) κ′ u32 .twice x (v ∷ [])) $ split ! $ move ! (4 ∷ 0 ∷ []) $
         use2 W (raw (Judged 𝓤 H A at-mem run .pre (to-judged tie k))) (goes tie k is fits) $
         -- [what `judged` asks; what the words own; the ties' token; the fractured borrow; what the ties own; the locals]
         answers ! (fmOf 𝓤 H (W .laws) 𝓣) (Judged 𝓤 H A at-mem run) known (to-judged tie k)
-        (and-then ! (load ! (from ! (stop !)) (look ! (local 5 5) refl))
-        (and-then ! (load ! (from ! (stop !)) (look ! (local 5 2) refl))
-        (and-then ! (load ! (from ! (stop !)) (look ! (local 5 3) refl))
+        (hands ! (local 5 5) refl (hands ! (local 5 2) refl (hands ! (local 5 3) refl
         (and-then ! (load ! (from ! (fld ! refl (stop !))) (look-in ! (local 5 6) (sub ! 0 refl (whole !))))
         (and-then ! (load ! (from ! (fld ! refl (stop !))) (look-in ! (local 5 6) (sub ! 1 refl (whole !))))
         (and-then ! (load ! (from ! (fld ! refl (stop !))) (look-in ! (local 5 6) (sub ! 2 refl (whole !))))
-        (and-then ! (load ! (from ! (fld ! refl (stop !))) (look-in ! (local 5 6) (sub ! 3 refl (whole !)))) (no-more !))))))))
-        u32 (of-uint w32) (‵ (flft κ′ q′) ⊛ ‵ ftrue) (lasts judged.ended (κ′, tt) (args tie k)) (λ r ls. r ≡ judgeTie m ws tie k) (λ w. id⊢ 𝓤 _) (λ r ls is-r e.
+        (and-then ! (load ! (from ! (fld ! refl (stop !))) (look-in ! (local 5 6) (sub ! 3 refl (whole !)))) (no-more !)))))))) u32 (of-uint w32)
+        (‵ (flft κ′ q′) ⊛ ‵ ftrue) (lasts judged.ended (κ′, tt) (args tie k)) (λ r ls. r ≡ judgeTie m ws tie k) (λ w. id⊢ 𝓤 _) (λ r ls is-r e.
         -- [the words' token, and true; what is said of what was lent; what the words own; the ties' token; the fractured borrow; what the ties own; the locals]
-        land ! (from ! (stop !)) (store ! (local 6 5) refl (tt, record { fits = is-r .1 })) $
+        lands-in ! (store ! (local 6 5) refl (tt, record { fits = is-r .1 })) $
         -- i = i + 1
-        assigns-last ! (bin ! (load ! (from ! (stop !)) (look ! (local 6 4) refl)) (lit ! tt) (record { fits = next-fits }))
-        (from ! (stop !)) (store ! (local 6 4) refl (tt, record { fits = next-fits })) $
-        rewrite ! (local 6 4) (λ (j : ℕ). ‵ (fat fullShare word l₄ 0 (vint w64 j))) (add-one i) refl $
-        forget ! (local 6 6) refl $ forget ! (local 6 7) refl $ forget ! (local 6 8) refl $ forget ! (local 6 9) refl $ forget ! (local 6 10) refl $
-        split ! $ keep ! (5 ∷ 4 ∷ 0 ∷ 6 ∷ 3 ∷ from-to 7 22) $ by ! (then r (is-r .1) e))))
+        puts-last ! (bin ! (held ! (local 6 4) refl) (lit ! tt) (record { fits = next-fits })) (store ! (local 6 4) refl (tt, record { fits = next-fits }))
+        $ rewrite ! (local 6 4) (λ (j : ℕ). ‵ (fat fullShare word l₄ 0 (vint w64 j))) (add-one i) refl $ forget ! (local 6 6) refl $
+        forget ! (local 6 7) refl $ forget ! (local 6 8) refl $ forget ! (local 6 9) refl $ forget ! (local 6 10) refl $ split ! $
+        keep ! (5 ∷ 4 ∷ 0 ∷ 6 ∷ 3 ∷ from-to 7 22) $ by ! (then r (is-r .1) e))))
       where
         tie : Tie
         tie = getD ts i none
@@ -286,17 +271,15 @@ module _ {M : Type 1} (𝓤 : URA M) (H : Heap 𝓤) (A : Atoms 𝓤) (W : Given
     ends k X fits e =
         qed W (At n k) ∵ exec ! C Λ En mir.turn-1 (anyQ (afterTurn 𝓤 H X Left)) $
         -- _7 = ties.len(); _8 = i < _7; the loop is left
-        assigns ! (of-opd ! (load ! (from ! (fld ! refl (stop !))) (look-in ! (local 5 1) (sub ! 1 refl (whole !)))))
-        (from ! (stop !)) (init ! (local 5 7) refl (tt, record { fits = rt .0 })) $
-        assigns ! (bin ! (load ! (from ! (stop !)) (look ! (local 5 4) refl)) (load ! (from ! (stop !)) (look ! (local 5 7) refl)) tt)
-        (from ! (stop !)) (init ! (local 5 8) refl (tt, tt)) $
+        puts ! (of-opd ! (load ! (from ! (fld ! refl (stop !))) (look-in ! (local 5 1) (sub ! 1 refl (whole !)))))
+        (init ! (local 5 7) refl (tt, record { fits = rt .0 })) $
+        puts ! (bin ! (held ! (local 5 4) refl) (held ! (local 5 7) refl) tt) (init ! (local 5 8) refl (tt, tt)) $
         rewrite ! (local 5 8) (λ (u : Bool). ‵ (fat fullShare tyBool l₈ 0 (vbool u))) (le-ltb n n (le-refl n)) refl $
-        leaves-loop ! (load ! (from ! (stop !)) (look ! (local 5 8) refl)) $ exec ! C Λ En mir.t-4 (atRet En Q) $
+        leaves-loop ! (held ! (local 5 8) refl) $ exec ! C Λ En mir.t-4 (atRet En Q) $
         -- _0 = found; the locals are freed
-        assigns ! (of-opd ! (load ! (from ! (stop !)) (look ! (local 5 5) refl))) (from ! (stop !)) (init ! (local 5 0) refl (tt, record { fits = fits })) $
-        returns ! (look ! (local 5 0) refl) $
-        frees-all ! 5 (holds _ ∷ holds _ ∷ holds _ ∷ holds _ ∷ holds _ ∷ holds _ ∷ empty ∷ holds _ ∷ holds _ ∷ []) refl $
-        keep ! (from-to 1 4) $ by ! (leaves k fits e)
+        puts ! (of-opd ! (held ! (local 5 5) refl)) (init ! (local 5 0) refl (tt, record { fits = fits })) $ returns ! (look ! (local 5 0) refl) $
+        frees-all ! 5 (holds _ ∷ holds _ ∷ holds _ ∷ holds _ ∷ holds _ ∷ holds _ ∷ empty ∷ holds _ ∷ holds _ ∷ []) refl $ keep ! (from-to 1 4) $
+        by ! (leaves k fits e)
 
     loops : ent 𝓤 (⋆ 𝓤 H A (At 0 0)) (Wp 𝓤 H C Λ En (loop mir.turn-1) Left)
     loops =
@@ -309,26 +292,23 @@ module _ {M : Type 1} (𝓤 : URA M) (H : Heap 𝓤) (A : Atoms 𝓤) (W : Given
       → ent 𝓤 (onEntry 𝓤 H A judge.signature (κ, (κ′, tt)) (q, (q′, tt)) a at)
       (WpFn 𝓤 H (𝓣 .C) (𝓣 .Λ) code.function (sliceVal (b, o) n ∷ v ∷ vint w16 m ∷ []) Q)
   walk Q leaves 𝓣 known rt rs =
-      qed W ((‵ (flft κ q) ⊛ ‵ (flft κ′ q′) ⊛ ‵ ftrue) ∷ ‵ (owns (ShrSlice (named 0) κ R ∷ ShrSlice (named 1) κ′ u32 ∷ u16 ∷ []) a at) ∷ [])
-      ∵ enter ! (𝓣 .C) (𝓣 .Λ) code.function (sliceVal (b, o) n ∷ v ∷ vint w16 m ∷ []) _ $
-      alloc1 !
-      (λ l₀. alloc1 !
-      (λ l₁. alloc1 !
-      (λ l₂. alloc1 !
-      (λ l₃. alloc1 ! (λ l₄. alloc1 ! (λ l₅. alloc1 ! (λ l₆. alloc1 ! (λ l₇. alloc1 ! (λ l₈. alloc1 ! (λ l₉. alloc1 ! (λ l₁₀. alloc0 ! $ params1 ! $
+      qed W ((‵ (flft κ q) ⊛ ‵ (flft κ′ q′) ⊛ ‵ ftrue) ∷ ‵ (owns (ShrSlice (named 0) κ R ∷ ShrSlice (named 1) κ′ u32 ∷ u16 ∷ []) a at) ∷ []) ∵ enter !
+      (𝓣 .C) (𝓣 .Λ) code.function (sliceVal (b, o) n ∷ v ∷ vint w16 m ∷ []) _ $
+      alloc1 ! (λ l₀. alloc1 ! (λ l₁. alloc1 ! (λ l₂. alloc1 ! (λ l₃. alloc1 !
+      (λ l₄. alloc1 ! (λ l₅. alloc1 ! (λ l₆. alloc1 ! (λ l₇. alloc1 ! (λ l₈. alloc1 ! (λ l₉. alloc1 ! (λ l₁₀. alloc0 ! $ params1 ! $
       pass1 ! (init ! (local 0 1) refl (tt, (tt, (record { fits = rt .0 }, tt)))) $
-      pass1 ! (init ! (local 0 2) refl (tt, (tt, (record { fits = rs .0 }, tt)))) $ pass1 ! (init ! (local 0 3) refl (tt, record { fits = m-fits })) $ pass0 ! $
+      pass1 ! (init ! (local 0 2) refl (tt, (tt, (record { fits = rs .0 }, tt)))) $ pass1 ! (init ! (local 0 3) refl (tt, record { fits = m-fits })) $
+      pass0 ! $
       -- i = 0; found = 0
-      assigns ! (of-opd ! (lit ! tt)) (from ! (stop !)) (init ! (local 0 4) refl (tt, record { fits = lit< tt })) $
-      assigns ! (of-opd ! (lit ! tt)) (from ! (stop !)) (init ! (local 0 5) refl (tt, record { fits = lit< tt })) $
+      puts ! (of-opd ! (lit ! tt)) (init ! (local 0 4) refl (tt, record { fits = lit< tt })) $
+      puts ! (of-opd ! (lit ! tt)) (init ! (local 0 5) refl (tt, record { fits = lit< tt })) $
       -- what ties owns is had twice: one copy is kept whole for the exit, and of the other the fractured borrow is kept
-      move ! (23 ∷ []) $ fsplit ! $ use1 W (‵ OwnT ⊛ ‵ OwnT) (shr-slice-copy 𝓤 H A W (named 0) κ R .twice y (sliceVal (b, o) n ∷ [])) $
-      split ! $ fsplit ! $ forgo ! $ fsplit ! $ forgo ! $
+      move ! (23 ∷ []) $ fsplit ! $ use1 W (‵ OwnT ⊛ ‵ OwnT) (shr-slice-copy 𝓤 H A W (named 0) κ R .twice y (sliceVal (b, o) n ∷ [])) $ split ! $ fsplit ! $
+      forgo ! $ fsplit ! $ forgo ! $
       -- [the fractured borrow; what ties owns; what the words own, n, and true; the locals, the last first; the tokens]
       move ! (2 ∷ []) $ fsplit ! $ move ! (1 ∷ []) $ forgo ! $ move ! (25 ∷ []) $ split ! $ move ! (1 ∷ []) $ split ! $
       -- [the words' token; true; the ties' token; what the words own; the fractured borrow; what ties owns; _10; …; _0; …]
-      keep ! (4 ∷ 2 ∷ 0 ∷ 5 ∷ 3 ∷ from-to 6 22) $
-      by ! (loops Q leaves 𝓣 known rt l₀ l₁ l₂ l₃ l₄ l₅ l₆ l₇ l₈ l₉ l₁₀))))))))))))
+      keep ! (4 ∷ 2 ∷ 0 ∷ 5 ∷ 3 ∷ from-to 6 22) $ by ! (loops Q leaves 𝓣 known rt l₀ l₁ l₂ l₃ l₄ l₅ l₆ l₇ l₈ l₉ l₁₀))))))))))))
 
 module _ {M : Type 1} (𝓤 : URA M) (H : Heap 𝓤) (A : Atoms 𝓤) (W : Given 𝓤 H A) (mem : Memory → SProp 𝓤)
     (run : Routine → Fun 𝓤) (𝓣 : Tables 𝓤 H) (known : Triple 𝓤 (𝓣 .C #offsets·judged) (Judged 𝓤 H A mem run)) where

@@ -25,7 +25,7 @@ use sound.WpLaws.{fmOf, WpFn-mono}
 use types.Kit.{Given, ‵, raw, _⊛_, ⋆, _$_, _∵_, !, qed, by, move, keep, use1, use2, use3, drop as forgo, split, join, rewrite, fsplit, fjoin}
 use types.Kit.{suffices, frame, done}
 use types.Part.{agg, whole, sub, look-in}
-use types.Run.{look, init, stop, hop, fld, from, load, addr, of-opd, and-then, no-more, assigns, land, returns, enter, alloc1, alloc0, params1, pass1, pass0}
+use types.Run.{look, init, stop, hop, fld, from, load, addr, of-opd, and-then, no-more, returns, enter, alloc1, alloc0, params1, pass1, pass0}
 use denote.RattleType.{RattleType, owns}
 use denote.Laws.{Is}
 use denote.Plain.{uint-makes, uint-vals, uint-tells}
@@ -48,7 +48,7 @@ use Rattle.register.specs.Inner.{SizeIn}
 use Rattle.offsets.specs.Inner.{judgeAll, Begins, roundsOf, TellsOver}
 use Rattle.offsets.specs.declared.Tie.{Tie}
 use Rattle.offsets.proofs.ReborrowLaws.{lends, takes-back}
-use Rattle.offsets.proofs.WalkLaws.{cell, from-to, holds, frees-all, past, as-long, number, truth, of-uint, of-bool, answers}
+use Rattle.offsets.proofs.WalkLaws.{cell, from-to, holds, frees-all, past, as-long, number, truth, of-uint, of-bool, answers, hands, puts, lands-in}
 use Rattle.offsets.proofs.AmongLaws.{calls-told}
 use Rattle.offsets.proofs.Tie as T
 use Rattle.register.proofs.size_in as size-in
@@ -184,16 +184,12 @@ module _ {M : Type 1} (𝓤 : URA M) (H : Heap 𝓤) (A : Atoms 𝓤) (W : Given
       (⋆ 𝓤 H A (‵ (flft κ q) ∷ ‵ (flft κ′ q′) ∷ (‵ (flft κ″ q″) ⊛ ‵ (flft κ‴ q‴) ⊛ ‵ ftrue) ∷ ‵ OwnS
       ∷ ‵ OwnT ∷ ‵ (finally i64 γ₂ wl) ∷ ‵ (finally i32 γ₃ fl) ∷ [])) (Post (vint w64 k))
   exits k fits wl fl e lw ll =
-      qed W (‵ (flft κ q) ∷ ‵ (flft κ′ q′) ∷ (‵ (flft κ″ q″) ⊛ ‵ (flft κ‴ q‴) ⊛ ‵ ftrue) ∷ ‵ OwnS
-      ∷ ‵ OwnT ∷ ‵ (finally i64 γ₂ wl) ∷ ‵ (finally i32 γ₃ fl) ∷ []) ∵
-      suffices ! _ (ends-at 𝓤 H A offsets.ended stayed (offsets.clauses 𝓤 H A at-mem run) W (
-        ((κ, (κ′, (κ″, (κ‴, tt)))), (q, (q′, (q″, (q‴, tt)))), tt, a, at),
-        tt,
-      ) (vint w64 k) k (tt, (tt, (tt, (wl, (fl, tt))))) (tt, (tt, (tt, (lw, (ll, tt)))))) $ says ! e $
-      move ! (1 ∷ 2 ∷ []) $ join ! $ move ! (1 ∷ 0 ∷ []) $ join ! $ frame ! $
-      nothing ! $ move ! (4 ∷ 0 ∷ []) $ fjoin ! $ move ! (3 ∷ 0 ∷ []) $ fjoin ! $ move ! (2 ∷ 0 ∷ []) $ fjoin ! $
-      number ! w16 base (refl, base-fits) $ move ! (1 ∷ 0 ∷ []) $ fjoin ! $ frame ! $
-      owned ! u64 (Is u64) (uint-makes 𝓤 H A W w64) k _ (refl, fits) $ done !
+      qed W (‵ (flft κ q) ∷ ‵ (flft κ′ q′) ∷ (‵ (flft κ″ q″) ⊛ ‵ (flft κ‴ q‴) ⊛ ‵ ftrue) ∷ ‵ OwnS ∷ ‵ OwnT ∷ ‵ (finally i64 γ₂ wl) ∷ ‵ (finally i32 γ₃ fl)
+      ∷ []) ∵ suffices ! _ (ends-at 𝓤 H A offsets.ended stayed (offsets.clauses 𝓤 H A at-mem run) W
+      (((κ, (κ′, (κ″, (κ‴, tt)))), (q, (q′, (q″, (q‴, tt)))), tt, a, at), tt) (vint w64 k) k (tt, (tt, (tt, (wl, (fl, tt)))))
+      (tt, (tt, (tt, (lw, (ll, tt)))))) $ says ! e $ move ! (1 ∷ 2 ∷ []) $ join ! $ move ! (1 ∷ 0 ∷ []) $ join ! $ frame ! $ nothing ! $
+      move ! (4 ∷ 0 ∷ []) $ fjoin ! $ move ! (3 ∷ 0 ∷ []) $ fjoin ! $ move ! (2 ∷ 0 ∷ []) $ fjoin ! $ number ! w16 base (refl, base-fits) $
+      move ! (1 ∷ 0 ∷ []) $ fjoin ! $ frame ! $ owned ! u64 (Is u64) (uint-makes 𝓤 H A W w64) k _ (refl, fits) $ done !
 
   -- ---- what each callee's triple binds outside, and that the caller has what it asks
   abbrev to-size : Size 𝓤 H A at-mem run .Ghost
@@ -215,9 +211,9 @@ module _ {M : Type 1} (𝓤 : URA M) (H : Heap 𝓤) (A : Atoms 𝓤) (W : Given
 
     goes-judge : ent 𝓤 (sep 𝓤 (sep 𝓤 (A .lft κ′ q′) (A .lft κ q)) (sep 𝓤 (sem 𝓤 H A OwnT) (sem 𝓤 H A OwnS))) (Judge 𝓤 H A at-mem run .pre to-judge)
     goes-judge =
-        qed W ((‵ (flft κ′ q′) ⊛ ‵ (flft κ q)) ∷ ‵ OwnT ∷ ‵ OwnS ∷ []) ∵ nothing ! $
-        number ! w16 n (refl, n-fits) $ move ! (3 ∷ 0 ∷ []) $ fjoin ! $ move ! (2 ∷ 0 ∷ []) $ fjoin ! $
-        move ! (1 ∷ []) $ split ! $ nothing ! $ move ! (2 ∷ 0 ∷ []) $ join ! $ move ! (1 ∷ 0 ∷ []) $ join ! $ join ! $ frame ! $ done !
+        qed W ((‵ (flft κ′ q′) ⊛ ‵ (flft κ q)) ∷ ‵ OwnT ∷ ‵ OwnS ∷ []) ∵ nothing ! $ number ! w16 n (refl, n-fits) $ move ! (3 ∷ 0 ∷ []) $ fjoin ! $
+        move ! (2 ∷ 0 ∷ []) $ fjoin ! $ move ! (1 ∷ []) $ split ! $ nothing ! $ move ! (2 ∷ 0 ∷ []) $ join ! $ move ! (1 ∷ 0 ∷ []) $ join ! $ join ! $
+        frame ! $ done !
 
     module _ (found : ℕ) (found-fits : found < 2 ^ 32) (count-fits : length ts < 2 ^ 64) where
       abbrev B : Type 0
@@ -241,13 +237,10 @@ module _ {M : Type 1} (𝓤 : URA M) (H : Heap 𝓤) (A : Atoms 𝓤) (W : Given
       goes-begin : (ν : ℕ) (δ : GName) → ent 𝓤 (sep 𝓤 (sep 𝓤 (A .lft κ q) (A .lft (ν ∷ []) fullShare)) (sep 𝓤 (sem 𝓤 H A OwnS) (sem 𝓤 H A (Lent ν δ d₀))))
           (Begin 𝓤 H A at-mem run .pre (to-begin ν δ))
       goes-begin ν δ =
-          qed W ((‵ (flft κ q) ⊛ ‵ (flft (ν ∷ []) fullShare)) ∷ ‵ OwnS ∷ ‵ (Lent ν δ d₀) ∷ []) ∵ nothing ! $ move ! (3 ∷ 0 ∷ []) $
-          fjoin ! $ number ! w64 (length ts) (refl, count-fits) $
-          number ! w32 found (refl, found-fits) $
-          number ! w16 base (refl, base-fits) $
-          number ! w16 n (refl, n-fits) $
-          move ! (2 ∷ 0 ∷ []) $ fjoin ! $ move ! (1 ∷ []) $ split ! $ nothing ! $
-          move ! (2 ∷ 0 ∷ []) $ join ! $ move ! (1 ∷ 0 ∷ []) $ join ! $ join ! $ frame ! $ done !
+          qed W ((‵ (flft κ q) ⊛ ‵ (flft (ν ∷ []) fullShare)) ∷ ‵ OwnS ∷ ‵ (Lent ν δ d₀) ∷ []) ∵ nothing ! $ move ! (3 ∷ 0 ∷ []) $ fjoin ! $
+          number ! w64 (length ts) (refl, count-fits) $ number ! w32 found (refl, found-fits) $ number ! w16 base (refl, base-fits) $
+          number ! w16 n (refl, n-fits) $ move ! (2 ∷ 0 ∷ []) $ fjoin ! $ move ! (1 ∷ []) $ split ! $ nothing ! $ move ! (2 ∷ 0 ∷ []) $ join ! $
+          move ! (1 ∷ 0 ∷ []) $ join ! $ join ! $ frame ! $ done !
 
     module _ (cause : ℕ) (cause-fits : cause < 2 ^ 32) where
       abbrev r-args : ℕ × (ℕ × Unit {0})
@@ -258,8 +251,8 @@ module _ {M : Type 1} (𝓤 : URA M) (H : Heap 𝓤) (A : Atoms 𝓤) (W : Given
 
       goes-rounds : ent 𝓤 (sem 𝓤 H A ftrue) (Rounds 𝓤 H A at-mem run .pre to-rounds)
       goes-rounds =
-          qed W (‵ ftrue ∷ []) ∵ nothing ! $ number ! w16 n (refl, n-fits) $
-          number ! w32 cause (refl, cause-fits) $ move ! (1 ∷ 0 ∷ []) $ join ! $ frame ! $ done !
+          qed W (‵ ftrue ∷ []) ∵ nothing ! $ number ! w16 n (refl, n-fits) $ number ! w32 cause (refl, cause-fits) $ move ! (1 ∷ 0 ∷ []) $ join ! $
+          frame ! $ done !
 
       module _ (on : Bool) (ds : List ℤ) where
         abbrev Ha : Type 0
@@ -275,11 +268,9 @@ module _ {M : Type 1} (𝓤 : URA M) (H : Heap 𝓤) (A : Atoms 𝓤) (W : Given
         goes-hand : ent 𝓤 (sep 𝓤 (sep 𝓤 (A .lft κ″ q″) (A .lft κ‴ q‴)) (sep 𝓤 (sem 𝓤 H A (OwnW ds (length ds))) (sem 𝓤 H A OwnL)))
             (Hand 𝓤 H A at-mem run .pre to-hand)
         goes-hand =
-            qed W ((‵ (flft κ″ q″) ⊛ ‵ (flft κ‴ q‴)) ∷ ‵ (OwnW ds (length ds)) ∷ ‵ OwnL ∷ []) ∵ nothing ! $ move ! (3 ∷ 0 ∷ []) $
-            fjoin ! $ move ! (2 ∷ 0 ∷ []) $ fjoin ! $ truth ! on $
-            number ! w16 n (refl, n-fits) $
-            number ! w32 cause (refl, cause-fits) $
-            move ! (1 ∷ []) $ split ! $ nothing ! $ move ! (2 ∷ 0 ∷ []) $ join ! $ move ! (1 ∷ 0 ∷ []) $ join ! $ join ! $ frame ! $ done !
+            qed W ((‵ (flft κ″ q″) ⊛ ‵ (flft κ‴ q‴)) ∷ ‵ (OwnW ds (length ds)) ∷ ‵ OwnL ∷ []) ∵ nothing ! $ move ! (3 ∷ 0 ∷ []) $ fjoin ! $
+            move ! (2 ∷ 0 ∷ []) $ fjoin ! $ truth ! on $ number ! w16 n (refl, n-fits) $ number ! w32 cause (refl, cause-fits) $ move ! (1 ∷ []) $ split ! $
+            nothing ! $ move ! (2 ∷ 0 ∷ []) $ join ! $ move ! (1 ∷ 0 ∷ []) $ join ! $ join ! $ frame ! $ done !
 
     module _ (rounds : ℕ) (rounds-fits : rounds < 2 ^ 64) (ds : List ℤ) where
       abbrev Sa : Type 0
@@ -295,10 +286,9 @@ module _ {M : Type 1} (𝓤 : URA M) (H : Heap 𝓤) (A : Atoms 𝓤) (W : Given
       goes-settle : (ν : ℕ) (δ : GName) → ent 𝓤 (sep 𝓤 (sep 𝓤 (A .lft κ′ q′) (A .lft (ν ∷ []) fullShare)) (sep 𝓤 (sem 𝓤 H A OwnT) (sem 𝓤 H A (Lent ν δ ds))))
           (Settle 𝓤 H A at-mem run .pre (to-settle ν δ))
       goes-settle ν δ =
-          qed W ((‵ (flft κ′ q′) ⊛ ‵ (flft (ν ∷ []) fullShare)) ∷ ‵ OwnT ∷ ‵ (Lent ν δ ds) ∷ []) ∵ nothing ! $
-          move ! (3 ∷ 0 ∷ []) $ fjoin ! $ number ! w64 rounds (refl, rounds-fits) $
-          number ! w16 n (refl, n-fits) $ move ! (2 ∷ 0 ∷ []) $ fjoin ! $ move ! (1 ∷ []) $ split ! $
-          nothing ! $ move ! (2 ∷ 0 ∷ []) $ join ! $ move ! (1 ∷ 0 ∷ []) $ join ! $ join ! $ frame ! $ done !
+          qed W ((‵ (flft κ′ q′) ⊛ ‵ (flft (ν ∷ []) fullShare)) ∷ ‵ OwnT ∷ ‵ (Lent ν δ ds) ∷ []) ∵ nothing ! $ move ! (3 ∷ 0 ∷ []) $ fjoin ! $
+          number ! w64 rounds (refl, rounds-fits) $ number ! w16 n (refl, n-fits) $ move ! (2 ∷ 0 ∷ []) $ fjoin ! $ move ! (1 ∷ []) $ split ! $ nothing ! $
+          move ! (2 ∷ 0 ∷ []) $ join ! $ move ! (1 ∷ 0 ∷ []) $ join ! $ join ! $ frame ! $ done !
 
   -- what `begin`, `settle` and `tell_limits` say of what they were lent, and in it the work and the list as each leaves them
   abbrev LastB : Type 0
@@ -336,140 +326,113 @@ module _ {M : Type 1} (𝓤 : URA M) (H : Heap 𝓤) (A : Atoms 𝓤) (W : Given
     walk : ent 𝓤 (onEntry 𝓤 H A offsets.signature (κ, (κ′, (κ″, (κ‴, tt)))) (q, (q′, (q″, (q‴, tt)))) a at)
         (WpFn 𝓤 H (𝓣 .C) (𝓣 .Λ) code.function (v ∷ vint w16 base ∷ u ∷ s (length d₀) ∷ z ∷ []) Q)
     walk =
-        qed W ((‵ (flft κ q) ⊛ ‵ (flft κ′ q′) ⊛ ‵ (flft κ″ q″) ⊛ ‵ (flft κ‴ q‴) ⊛ ‵ ftrue)
-        ∷ ‵ (owns (ShrSlice (named 0) κ u32 ∷ u16 ∷ ShrSlice (named 1) κ′ R ∷ MutSlice (named 2) κ″ i64 ∷ MutSlice (named 3) κ‴ i32 ∷ []) a at) ∷ []) ∵
-        enter ! (𝓣 .C) (𝓣 .Λ) code.function (v ∷ vint w16 base ∷ u ∷ s (length d₀) ∷ z ∷ []) _ $
+        qed W ((‵ (flft κ q) ⊛ ‵ (flft κ′ q′) ⊛ ‵ (flft κ″ q″) ⊛ ‵ (flft κ‴ q‴) ⊛ ‵ ftrue) ∷ ‵
+        (owns (ShrSlice (named 0) κ u32 ∷ u16 ∷ ShrSlice (named 1) κ′ R ∷ MutSlice (named 2) κ″ i64 ∷ MutSlice (named 3) κ‴ i32 ∷ []) a at) ∷ []) ∵ enter !
+        (𝓣 .C) (𝓣 .Λ) code.function (v ∷ vint w16 base ∷ u ∷ s (length d₀) ∷ z ∷ []) _ $
         -- the locals, and the parameters _1 to _5
-        alloc1 ! (λ l₀. alloc1 ! (λ l₁. alloc1 ! (λ l₂. alloc1 ! (λ l₃. alloc1 ! (λ l₄. alloc1 ! (λ l₅. alloc1 ! (λ l₆. alloc1 ! (λ l₇. alloc1 ! (λ l₈.
-        alloc1 ! (λ l₉. alloc1 ! (λ l₁₀. alloc1 ! (λ l₁₁. alloc1 ! (λ l₁₂. alloc1 ! (λ l₁₃. alloc1 ! (λ l₁₄. alloc1 ! (λ l₁₅. alloc1 ! (λ l₁₆.
-        alloc1 ! (λ l₁₇. alloc1 ! (λ l₁₈. alloc1 ! (λ l₁₉. alloc0 ! $ params1 ! $
+        alloc1 ! (λ l₀. alloc1 ! (λ l₁. alloc1 ! (λ l₂. alloc1 ! (λ l₃. alloc1 !
+        (λ l₄. alloc1 ! (λ l₅. alloc1 ! (λ l₆. alloc1 ! (λ l₇. alloc1 ! (λ l₈. alloc1 !
+        (λ l₉. alloc1 ! (λ l₁₀. alloc1 ! (λ l₁₁. alloc1 ! (λ l₁₂. alloc1 ! (λ l₁₃. alloc1 !
+        (λ l₁₄. alloc1 ! (λ l₁₅. alloc1 ! (λ l₁₆. alloc1 ! (λ l₁₇. alloc1 ! (λ l₁₈. alloc1 ! (λ l₁₉. alloc0 ! $ params1 ! $
         pass1 ! (init ! (local 0 1) refl (tt, (tt, (record { fits = rs .0 }, tt)))) $ pass1 ! (init ! (local 0 2) refl (tt, record { fits = base-fits })) $
         pass1 ! (init ! (local 0 3) refl (tt, (tt, (record { fits = rt .0 }, tt)))) $
         pass1 ! (init ! (local 0 4) refl (tt, (tt, (record { fits = rw .0 }, tt)))) $
-        pass1 ! (init ! (local 0 5) refl (tt, (tt, (record { fits = rl .0 }, tt)))) $ pass0 ! $
-        move ! (41 ∷ []) $ fsplit ! $ move ! (1 ∷ []) $ fsplit ! $ forgo ! $ fsplit ! $ move ! (1 ∷ []) $ fsplit ! $ move ! (1 ∷ []) $
-        fsplit ! $ move ! (45 ∷ []) $ split ! $ move ! (1 ∷ []) $ split ! $ move ! (1 ∷ []) $ split ! $ move ! (1 ∷ []) $ split ! $
-        keep ! (4 ∷ 3 ∷ 2 ∷ 0 ∷ 9 ∷ 8 ∷ 7 ∷ 5 ∷ from-to 10 40) $
+        pass1 ! (init ! (local 0 5) refl (tt, (tt, (record { fits = rl .0 }, tt)))) $ pass0 ! $ move ! (41 ∷ []) $ fsplit ! $ move ! (1 ∷ []) $ fsplit ! $
+        forgo ! $ fsplit ! $ move ! (1 ∷ []) $ fsplit ! $ move ! (1 ∷ []) $ fsplit ! $ move ! (45 ∷ []) $ split ! $ move ! (1 ∷ []) $ split ! $
+        move ! (1 ∷ []) $ split ! $ move ! (1 ∷ []) $ split ! $ keep ! (4 ∷ 3 ∷ 2 ∷ 0 ∷ 9 ∷ 8 ∷ 7 ∷ 5 ∷ from-to 10 40) $
         -- n = size_in(state), with a copy of what the words own
         -- [the tokens of the words, the ties, the work and the list; what the words, the ties, the work and the list own; the locals]
-        move ! (4 ∷ []) $ use1 W (‵ OwnS ⊛ ‵ OwnS) (shr-slice-copy 𝓤 H A W (named 0) κ u32 .twice x (v ∷ [])) $
-        split ! $ move ! (2 ∷ 0 ∷ []) $ use2 W (raw (Size 𝓤 H A at-mem run .pre to-size)) goes-size $
-        answers ! (fmOf 𝓤 H (W .laws) 𝓣) (Size 𝓤 H A at-mem run) known-size to-size (and-then ! (load ! (from ! (stop !)) (look ! (local 8 1) refl)) (no-more !))
-        u16 (of-uint w16) (‵ (flft κ q) ⊛ ‵ ftrue) (lasts size-in.ended (κ, tt) (x, tt)) (λ n ls. SizeIn ws n) (λ w. id⊢ 𝓤 _) (λ n ls is-n e₁.
-        land ! (from ! (stop !)) (init ! (local 9 6) refl (tt, record { fits = is-n .1 })) $ split ! $ move ! (1 ∷ 2 ∷ []) $ forgo ! $ forgo ! $
+        move ! (4 ∷ []) $ use1 W (‵ OwnS ⊛ ‵ OwnS) (shr-slice-copy 𝓤 H A W (named 0) κ u32 .twice x (v ∷ [])) $ split ! $ move ! (2 ∷ 0 ∷ []) $
+        use2 W (raw (Size 𝓤 H A at-mem run .pre to-size)) goes-size $
+        answers ! (fmOf 𝓤 H (W .laws) 𝓣) (Size 𝓤 H A at-mem run) known-size to-size (hands ! (local 8 1) refl (no-more !)) u16 (of-uint w16)
+        (‵ (flft κ q) ⊛ ‵ ftrue) (lasts size-in.ended (κ, tt) (x, tt)) (λ n ls. SizeIn ws n) (λ w. id⊢ 𝓤 _)
+        (λ n ls is-n e₁. lands-in ! (init ! (local 9 6) refl (tt, record { fits = is-n .1 })) $ split ! $ move ! (1 ∷ 2 ∷ []) $ forgo ! $ forgo ! $
         -- found = judge(ties, state, n), with copies of what the words and the ties own
         -- [the words' token; what they own; the tokens of the ties, the work and the list; what the ties, the work and the list own; the locals]
         move ! (1 ∷ []) $ use1 W (‵ OwnS ⊛ ‵ OwnS) (shr-slice-copy 𝓤 H A W (named 0) κ u32 .twice x (v ∷ [])) $ split ! $ move ! (6 ∷ []) $
-        use1 W (‵ OwnT ⊛ ‵ OwnT) (shr-slice-copy 𝓤 H A W (named 1) κ′ R .twice y (u ∷ [])) $ split ! $ move ! (5 ∷ 4 ∷ []) $ join ! $ move ! (0 ∷ 1 ∷ 3 ∷ []) $
-        use3 W (raw (Judge 𝓤 H A at-mem run .pre (to-judge n (is-n .1)))) (goes-judge n (is-n .1)) $
+        use1 W (‵ OwnT ⊛ ‵ OwnT) (shr-slice-copy 𝓤 H A W (named 1) κ′ R .twice y (u ∷ [])) $ split ! $ move ! (5 ∷ 4 ∷ []) $ join ! $
+        move ! (0 ∷ 1 ∷ 3 ∷ []) $ use3 W (raw (Judge 𝓤 H A at-mem run .pre (to-judge n (is-n .1)))) (goes-judge n (is-n .1)) $
         answers ! (fmOf 𝓤 H (W .laws) 𝓣) (Judge 𝓤 H A at-mem run) known-judge (to-judge n (is-n .1))
-        (and-then ! (load ! (from ! (stop !)) (look ! (local 7 3) refl))
-        (and-then ! (load ! (from ! (stop !)) (look ! (local 7 1) refl)) (and-then ! (load ! (from ! (stop !)) (look ! (local 7 6) refl)) (no-more !))))
-        u32 (of-uint w32) (‵ (flft κ′ q′) ⊛ ‵ (flft κ q) ⊛ ‵ ftrue) (lasts judge.ended (κ′, (κ, tt)) (j-args n (is-n .1)))
-        (λ k ls. k ≡ judgeAll n ws ts 0) (λ w. id⊢ 𝓤 _) (λ found ls is-f e₂.
-        land ! (from ! (stop !)) (init ! (local 8 7) refl (tt, record { fits = is-f .1 })) $
-        split ! $ move ! (1 ∷ []) $ split ! $ move ! (1 ∷ 3 ∷ []) $ forgo ! $ forgo ! $
+        (hands ! (local 7 3) refl (hands ! (local 7 1) refl (hands ! (local 7 6) refl (no-more !)))) u32 (of-uint w32)
+        (‵ (flft κ′ q′) ⊛ ‵ (flft κ q) ⊛ ‵ ftrue) (lasts judge.ended (κ′, (κ, tt)) (j-args n (is-n .1))) (λ k ls. k ≡ judgeAll n ws ts 0) (λ w. id⊢ 𝓤 _)
+        (λ found ls is-f e₂. lands-in ! (init ! (local 8 7) refl (tt, record { fits = is-f .1 })) $ split ! $ move ! (1 ∷ []) $ split ! $
+        move ! (1 ∷ 3 ∷ []) $ forgo ! $ forgo ! $
         -- _11 = ties.len(); _13 = work lent again, by _12, for a lifetime ν of the call
-        -- [the tokens of the words and the ties; what the ties and the words own; the tokens of the work and the list; what the work and the list own; the locals]
-        assigns ! (of-opd ! (load ! (from ! (fld ! refl (stop !))) (look-in ! (local 8 3) (sub ! 1 refl (whole !)))))
-        (from ! (stop !)) (init ! (local 8 11) refl (tt, record { fits = rt .0 })) $
-        assigns ! (addr ! (from ! (fld ! refl (hop ! (look-in ! (local 8 4) (sub ! 0 refl (whole !))) (stop !)))))
-        (from ! (stop !)) (init ! (local 8 12) refl (tt, tt)) $
-        assigns !
-        (agg ! (and-then ! (load ! (from ! (stop !)) (look ! (local 8 12) refl))
-        (and-then ! (load ! (from ! (fld ! refl (stop !))) (look-in ! (local 8 4) (sub ! 1 refl (whole !)))) (no-more !))))
-        (from ! (stop !)) (init ! (local 8 13) refl (tt, (tt, (record { fits = rw .0 }, tt)))) $
-        move ! (6 ∷ 4 ∷ []) $ lends ! tt i64 κ″ q″ γ₂ b₂ o₂ (named 2) (named 1) d₀ (λ ν δ.
+        -- [the tokens of the words and the ties; what the ties and the words own; the tokens of the work and the list; what these two own; the locals]
+        puts ! (of-opd ! (load ! (from ! (fld ! refl (stop !))) (look-in ! (local 8 3) (sub ! 1 refl (whole !)))))
+        (init ! (local 8 11) refl (tt, record { fits = rt .0 })) $
+        puts ! (addr ! (from ! (fld ! refl (hop ! (look-in ! (local 8 4) (sub ! 0 refl (whole !))) (stop !))))) (init ! (local 8 12) refl (tt, tt)) $
+        puts ! (agg ! (hands ! (local 8 12) refl (and-then ! (load ! (from ! (fld ! refl (stop !))) (look-in ! (local 8 4) (sub ! 1 refl (whole !))))
+        (no-more !)))) (init ! (local 8 13) refl (tt, (tt, (record { fits = rw .0 }, tt)))) $ move ! (6 ∷ 4 ∷ []) $
+        lends ! tt i64 κ″ q″ γ₂ b₂ o₂ (named 2) (named 1) d₀ (λ ν δ.
         -- cause = begin(state, n, base, found, _11, _13), with a copy of what the words own
         -- [the call's token; what is lent of the work, and kept; the tokens of the words and the ties; what the ties and the words own; the list's token;
         -- what the list owns; the locals]
-        move ! (6 ∷ []) $ use1 W (‵ OwnS ⊛ ‵ OwnS) (shr-slice-copy 𝓤 H A W (named 0) κ u32 .twice x (v ∷ [])) $
-        split ! $ move ! (5 ∷ 2 ∷ []) $ join ! $ move ! (0 ∷ 1 ∷ 3 ∷ []) $
+        move ! (6 ∷ []) $ use1 W (‵ OwnS ⊛ ‵ OwnS) (shr-slice-copy 𝓤 H A W (named 0) κ u32 .twice x (v ∷ [])) $ split ! $ move ! (5 ∷ 2 ∷ []) $ join ! $
+        move ! (0 ∷ 1 ∷ 3 ∷ []) $
         use3 W (raw (Begin 𝓤 H A at-mem run .pre (to-begin n (is-n .1) found (is-f .1) (rt .0) ν δ))) (goes-begin n (is-n .1) found (is-f .1) (rt .0) ν δ) $
         answers ! (fmOf 𝓤 H (W .laws) 𝓣) (Begin 𝓤 H A at-mem run) known-begin (to-begin n (is-n .1) found (is-f .1) (rt .0) ν δ)
-        (and-then ! (load ! (from ! (stop !)) (look ! (local 7 1) refl))
-        (and-then ! (load ! (from ! (stop !)) (look ! (local 7 6) refl))
-        (and-then ! (load ! (from ! (stop !)) (look ! (local 7 2) refl)) (and-then ! (load ! (from ! (stop !)) (look ! (local 7 7) refl))
-        (and-then ! (load ! (from ! (stop !)) (look ! (local 7 11) refl)) (and-then ! (load ! (from ! (stop !)) (look ! (local 7 13) refl)) (no-more !)))))))
-        u32 (of-uint w32) (‵ (flft κ q) ⊛ ‵ (flft (ν ∷ []) fullShare) ⊛ ‵ ftrue)
-        (lasts begin.ended (κ, (ν ∷ [], tt)) (b-args n (is-n .1) found (is-f .1) (rt .0) δ))
-        (λ k zs. Begins ws n base found (length ts) d₀ (begun zs) k) (λ w. id⊢ 𝓤 _) (λ cause zs is-c e₃.
-        land ! (from ! (stop !)) (init ! (local 8 8) refl (tt, record { fits = is-c .1 })) $
+        (hands ! (local 7 1) refl (hands ! (local 7 6) refl (hands ! (local 7 2) refl
+        (hands ! (local 7 7) refl (hands ! (local 7 11) refl (hands ! (local 7 13) refl (no-more !))))))) u32 (of-uint w32)
+        (‵ (flft κ q) ⊛ ‵ (flft (ν ∷ []) fullShare) ⊛ ‵ ftrue) (lasts begin.ended (κ, (ν ∷ [], tt)) (b-args n (is-n .1) found (is-f .1) (rt .0) δ))
+        (λ k zs. Begins ws n base found (length ts) d₀ (begun zs) k) (λ w. id⊢ 𝓤 _)
+        (λ cause zs is-c e₃. lands-in ! (init ! (local 8 8) refl (tt, record { fits = is-c .1 })) $
         -- the lifetime is ended, and the work comes back
-        move ! (1 ∷ []) $ past ! $ past ! $ past ! $ past ! $ past ! $ as-long ! (λ l₁′.
-        move ! (2 ∷ []) $ split ! $ move ! (1 ∷ []) $ split ! $ move ! (0 ∷ 6 ∷ 3 ∷ []) $
-        takes-back ! tt i64 κ″ q″ γ₂ b₂ o₂ (named 2) (named 1) d₀ (begun zs) δ rw l₁′ $ move ! (2 ∷ 4 ∷ []) $ forgo ! $ forgo ! $
+        move ! (1 ∷ []) $ past ! $ past ! $ past ! $ past ! $ past ! $ as-long ! (λ l₁′. move ! (2 ∷ []) $ split ! $ move ! (1 ∷ []) $ split ! $
+        move ! (0 ∷ 6 ∷ 3 ∷ []) $ takes-back ! tt i64 κ″ q″ γ₂ b₂ o₂ (named 2) (named 1) d₀ (begun zs) δ rw l₁′ $ move ! (2 ∷ 4 ∷ []) $ forgo ! $ forgo ! $
         rewrite ! (local 8 4) (λ (m : ℕ). ‵ (fat fullShare work-ty l₄ 0 (s m))) (sym l₁′) refl $
         -- rounds = rounds_of(cause, n)
         -- [what the work owns; its token; the words' token; what they own; the ties' token; what they own; the list's token; what it owns; the locals]
         nothing ! $ use1 W (raw (Rounds 𝓤 H A at-mem run .pre (to-rounds n (is-n .1) cause (is-c .1)))) (goes-rounds n (is-n .1) cause (is-c .1)) $
         answers ! (fmOf 𝓤 H (W .laws) 𝓣) (Rounds 𝓤 H A at-mem run) known-rounds (to-rounds n (is-n .1) cause (is-c .1))
-        (and-then ! (load ! (from ! (stop !)) (look ! (local 9 8) refl)) (and-then ! (load ! (from ! (stop !)) (look ! (local 9 6) refl)) (no-more !)))
-        usize (of-uint w64) (‵ ftrue) (lasts rounds-of.ended tt (r-args n (is-n .1) cause (is-c .1))) (λ k ls. k ≡ roundsOf cause n) (λ w. id⊢ 𝓤 _) (λ rounds ls is-r e₄.
-        land ! (from ! (stop !)) (init ! (local 10 9) refl (tt, record { fits = is-r .1 })) $ forgo ! $ forgo ! $
+        (hands ! (local 9 8) refl (hands ! (local 9 6) refl (no-more !))) usize (of-uint w64) (‵ ftrue)
+        (lasts rounds-of.ended tt (r-args n (is-n .1) cause (is-c .1))) (λ k ls. k ≡ roundsOf cause n) (λ w. id⊢ 𝓤 _)
+        (λ rounds ls is-r e₄. lands-in ! (init ! (local 10 9) refl (tt, record { fits = is-r .1 })) $ forgo ! $ forgo ! $
         -- _15 = work lent again, by _14, for a lifetime ν₂ of the call
-        assigns ! (addr ! (from ! (fld ! refl (hop ! (look-in ! (local 8 4) (sub ! 0 refl (whole !))) (stop !)))))
-        (from ! (stop !)) (init ! (local 8 14) refl (tt, tt)) $
-        assigns !
-        (agg ! (and-then ! (load ! (from ! (stop !)) (look ! (local 8 14) refl))
-        (and-then ! (load ! (from ! (fld ! refl (stop !))) (look-in ! (local 8 4) (sub ! 1 refl (whole !)))) (no-more !))))
-        (from ! (stop !)) (init ! (local 8 15) refl (tt, (tt, (record { fits = room (begun zs) l₁′ .0 }, tt)))) $
-        move ! (5 ∷ []) $ use1 W (‵ OwnT ⊛ ‵ OwnT) (shr-slice-copy 𝓤 H A W (named 1) κ′ R .twice y (u ∷ [])) $ split ! $
-        move ! (2 ∷ 3 ∷ []) $ lends ! tt i64 κ″ q″ γ₂ b₂ o₂ (named 2) (named 1) (begun zs) (λ ν₂ δ₂.
+        puts ! (addr ! (from ! (fld ! refl (hop ! (look-in ! (local 8 4) (sub ! 0 refl (whole !))) (stop !))))) (init ! (local 8 14) refl (tt, tt)) $
+        puts ! (agg ! (hands ! (local 8 14) refl (and-then ! (load ! (from ! (fld ! refl (stop !))) (look-in ! (local 8 4) (sub ! 1 refl (whole !))))
+        (no-more !)))) (init ! (local 8 15) refl (tt, (tt, (record { fits = room (begun zs) l₁′ .0 }, tt)))) $ move ! (5 ∷ []) $
+        use1 W (‵ OwnT ⊛ ‵ OwnT) (shr-slice-copy 𝓤 H A W (named 1) κ′ R .twice y (u ∷ [])) $ split ! $ move ! (2 ∷ 3 ∷ []) $
+        lends ! tt i64 κ″ q″ γ₂ b₂ o₂ (named 2) (named 1) (begun zs) (λ ν₂ δ₂.
         -- on = settle(ties, n, rounds, _15)
         -- [the call's token; what is lent of the work, and kept; what the ties own, twice; the words' token; what they own; the ties' token; the list's token;
         -- what the list owns; the locals]
         move ! (7 ∷ 0 ∷ []) $ join ! $ move ! (0 ∷ 3 ∷ 1 ∷ []) $
-        use3 W (raw (Settle 𝓤 H A at-mem run .pre (to-settle n (is-n .1) rounds (is-r .1) (begun zs) ν₂ δ₂)))
-        (goes-settle n (is-n .1) rounds (is-r .1) (begun zs) ν₂ δ₂) $
+        use3 W (raw (Settle 𝓤 H A at-mem run .pre (to-settle n (is-n .1) rounds (is-r .1) (begun zs) ν₂ δ₂))) (goes-settle n (is-n .1) rounds (is-r .1)
+        (begun zs) ν₂ δ₂) $
         answers ! (fmOf 𝓤 H (W .laws) 𝓣) (Settle 𝓤 H A at-mem run) known-settle (to-settle n (is-n .1) rounds (is-r .1) (begun zs) ν₂ δ₂)
-        (and-then ! (load ! (from ! (stop !)) (look ! (local 7 3) refl)) (and-then ! (load ! (from ! (stop !)) (look ! (local 7 6) refl))
-        (and-then ! (load ! (from ! (stop !)) (look ! (local 7 9) refl)) (and-then ! (load ! (from ! (stop !)) (look ! (local 7 15) refl)) (no-more !)))))
-        bool of-bool (‵ (flft κ′ q′) ⊛ ‵ (flft (ν₂ ∷ []) fullShare) ⊛ ‵ ftrue)
-        (lasts settle.ended (κ′, (ν₂ ∷ [], tt)) (s-args n (is-n .1) rounds (is-r .1) (begun zs) δ₂))
-        (λ r us. SaidS n rounds (begun zs) (passed us) r) (λ w. id⊢ 𝓤 _) (λ on us is-o e₅.
-        land ! (from ! (stop !)) (init ! (local 8 10) refl (tt, tt)) $
+        (hands ! (local 7 3) refl (hands ! (local 7 6) refl (hands ! (local 7 9) refl (hands ! (local 7 15) refl (no-more !))))) bool of-bool
+        (‵ (flft κ′ q′) ⊛ ‵ (flft (ν₂ ∷ []) fullShare) ⊛ ‵ ftrue) (lasts settle.ended (κ′, (ν₂ ∷ [], tt)) (s-args n (is-n .1) rounds (is-r .1) (begun zs)
+        δ₂)) (λ r us. SaidS n rounds (begun zs) (passed us) r) (λ w. id⊢ 𝓤 _) (λ on us is-o e₅. lands-in ! (init ! (local 8 10) refl (tt, tt)) $
         -- the lifetime is ended, and the work comes back
-        move ! (1 ∷ []) $ past ! $ past ! $ past ! $ as-long ! (λ l₂′.
-        move ! (2 ∷ []) $ split ! $ move ! (1 ∷ []) $ split ! $ move ! (0 ∷ 5 ∷ 3 ∷ []) $
-        takes-back ! tt i64 κ″ q″ γ₂ b₂ o₂ (named 2) (named 1) (begun zs) (passed us) δ₂ (room (begun zs) l₁′) l₂′ $
-        move ! (2 ∷ 4 ∷ []) $ forgo ! $ forgo ! $
-        rewrite ! (local 8 4) (λ (m : ℕ). ‵ (fat fullShare work-ty l₄ 0 (s m))) (sym l₂′) refl $
+        move ! (1 ∷ []) $ past ! $ past ! $ past ! $ as-long ! (λ l₂′. move ! (2 ∷ []) $ split ! $ move ! (1 ∷ []) $ split ! $ move ! (0 ∷ 5 ∷ 3 ∷ []) $
+        takes-back ! tt i64 κ″ q″ γ₂ b₂ o₂ (named 2) (named 1) (begun zs) (passed us) δ₂ (room (begun zs) l₁′) l₂′ $ move ! (2 ∷ 4 ∷ []) $ forgo ! $
+        forgo ! $ rewrite ! (local 8 4) (λ (m : ℕ). ‵ (fat fullShare work-ty l₄ 0 (s m))) (sym l₂′) refl $
         -- _17 = work given up, by _16; _19 = list given up, by _18
         -- [what the work owns; its token; the ties' token; what they own; the words' token; what they own; the list's token; what it owns; the locals]
-        assigns ! (addr ! (from ! (fld ! refl (hop ! (look-in ! (local 8 4) (sub ! 0 refl (whole !))) (stop !)))))
-        (from ! (stop !)) (init ! (local 8 16) refl (tt, tt)) $
-        assigns !
-        (agg ! (and-then ! (load ! (from ! (stop !)) (look ! (local 8 16) refl))
-        (and-then ! (load ! (from ! (fld ! refl (stop !))) (look-in ! (local 8 4) (sub ! 1 refl (whole !)))) (no-more !))))
-        (from ! (stop !)) (init ! (local 8 17) refl (tt, (tt, (record { fits = room (passed us) (l₂′ ∙ l₁′) .0 }, tt)))) $
-        assigns ! (addr ! (from ! (fld ! refl (hop ! (look-in ! (local 8 5) (sub ! 0 refl (whole !))) (stop !)))))
-        (from ! (stop !)) (init ! (local 8 18) refl (tt, tt)) $
-        assigns !
-        (agg ! (and-then ! (load ! (from ! (stop !)) (look ! (local 8 18) refl))
-        (and-then ! (load ! (from ! (fld ! refl (stop !))) (look-in ! (local 8 5) (sub ! 1 refl (whole !)))) (no-more !))))
-        (from ! (stop !)) (init ! (local 8 19) refl (tt, (tt, (record { fits = rl .0 }, tt)))) $
+        puts ! (addr ! (from ! (fld ! refl (hop ! (look-in ! (local 8 4) (sub ! 0 refl (whole !))) (stop !))))) (init ! (local 8 16) refl (tt, tt)) $
+        puts ! (agg ! (hands ! (local 8 16) refl (and-then ! (load ! (from ! (fld ! refl (stop !))) (look-in ! (local 8 4) (sub ! 1 refl (whole !))))
+        (no-more !)))) (init ! (local 8 17) refl (tt, (tt, (record { fits = room (passed us) (l₂′ ∙ l₁′) .0 }, tt)))) $
+        puts ! (addr ! (from ! (fld ! refl (hop ! (look-in ! (local 8 5) (sub ! 0 refl (whole !))) (stop !))))) (init ! (local 8 18) refl (tt, tt)) $
+        puts ! (agg ! (hands ! (local 8 18) refl (and-then ! (load ! (from ! (fld ! refl (stop !))) (look-in ! (local 8 5) (sub ! 1 refl (whole !))))
+        (no-more !)))) (init ! (local 8 19) refl (tt, (tt, (record { fits = rl .0 }, tt)))) $
         -- _0 = tell_limits(cause, n, on, _17, _19)
         move ! (1 ∷ 6 ∷ []) $ join ! $ move ! (0 ∷ 1 ∷ 6 ∷ []) $
-        use3 W (raw (Hand 𝓤 H A at-mem run .pre (to-hand n (is-n .1) cause (is-c .1) on (passed us)))) (goes-hand n (is-n .1) cause (is-c .1) on (passed us)) $
+        use3 W (raw (Hand 𝓤 H A at-mem run .pre (to-hand n (is-n .1) cause (is-c .1) on (passed us)))) (goes-hand n (is-n .1) cause (is-c .1) on
+        (passed us)) $
         answers ! (fmOf 𝓤 H (W .laws) 𝓣) (Hand 𝓤 H A at-mem run) known-hand (to-hand n (is-n .1) cause (is-c .1) on (passed us))
-        (and-then ! (load ! (from ! (stop !)) (look ! (local 5 8) refl))
-        (and-then ! (load ! (from ! (stop !)) (look ! (local 5 6) refl)) (and-then ! (load ! (from ! (stop !)) (look ! (local 5 10) refl))
-        (and-then ! (load ! (from ! (stop !)) (look ! (local 5 17) refl)) (and-then ! (load ! (from ! (stop !)) (look ! (local 5 19) refl)) (no-more !))))))
-        u64 (of-uint w64) (‵ (flft κ″ q″) ⊛ ‵ (flft κ‴ q‴) ⊛ ‵ ftrue)
-        (lasts tell-limits.ended (κ″, (κ‴, tt)) (h-args n (is-n .1) cause (is-c .1) on (passed us)))
-        (λ k hs. TellsOver cause n on (passed us) f₀ (listed hs) k) (λ w. id⊢ 𝓤 _) (λ k hs is-k e₆.
-        land ! (from ! (stop !)) (init ! (local 6 0) refl (tt, record { fits = is-k .1 })) $
-        move ! (1 ∷ []) $ past ! $ past ! $ past ! $ as-long ! (λ lw. move ! (1 ∷ []) $ as-long ! (λ ll.
-        -- the function returns. [the list's last words; true; the work's; the tokens of the work and the list; the ties' token; what they own; the words' token;
-        -- what they own; the locals]
+        (hands ! (local 5 8) refl (hands ! (local 5 6) refl (hands ! (local 5 10) refl
+        (hands ! (local 5 17) refl (hands ! (local 5 19) refl (no-more !)))))) u64 (of-uint w64) (‵ (flft κ″ q″) ⊛ ‵ (flft κ‴ q‴) ⊛ ‵ ftrue)
+        (lasts tell-limits.ended (κ″, (κ‴, tt)) (h-args n (is-n .1) cause (is-c .1) on (passed us))) (λ k hs. TellsOver cause n on (passed us) f₀
+        (listed hs) k) (λ w. id⊢ 𝓤 _) (λ k hs is-k e₆. lands-in ! (init ! (local 6 0) refl (tt, record { fits = is-k .1 })) $ move ! (1 ∷ []) $ past ! $
+        past ! $ past ! $ as-long ! (λ lw. move ! (1 ∷ []) $ as-long ! (λ ll.
+        -- the function returns. [the list's last words; true; the work's; the tokens of the work and the list; the ties' token; what they own;
+        -- the words' token; what they own; the locals]
         returns ! (look ! (local 8 0) refl) $
-        frees-all ! 8 (holds _ ∷ holds _ ∷ holds _ ∷ holds _ ∷ holds _ ∷ holds _ ∷ holds _ ∷ holds _ ∷ holds _ ∷ holds _ ∷ holds _ ∷ holds _ ∷ holds _
-        ∷ holds _ ∷ holds _ ∷ holds _ ∷ holds _ ∷ holds _ ∷ holds _ ∷ holds _ ∷ []) refl $
-        keep ! (6 ∷ 4 ∷ 3 ∷ 7 ∷ 5 ∷ 2 ∷ 0 ∷ []) $
-        by ! (leaves k (is-k .1) (worked hs) (listed hs)
-        (calls-told ws n base ts d₀ (begun zs) (passed us) f₀ (listed hs) found cause rounds on (e₆ .0) k e₁ e₂ e₃ e₄ e₅ (l₂′ ∙ l₁′) ll (e₆ .1 .0) (e₆ .1 .1))
-        (lw ∙ l₂′ ∙ l₁′) ll)))))))))))))))))))))))))))))))))
+        frees-all ! 8 (holds _ ∷ holds _ ∷ holds _ ∷ holds _ ∷ holds _ ∷ holds _ ∷ holds _ ∷ holds _ ∷ holds _ ∷ holds _ ∷ holds _ ∷ holds _ ∷ holds _ ∷
+        holds _ ∷ holds _ ∷ holds _ ∷ holds _ ∷ holds _ ∷ holds _ ∷ holds _ ∷ []) refl $ keep ! (6 ∷ 4 ∷ 3 ∷ 7 ∷ 5 ∷ 2 ∷ 0 ∷ []) $
+        by ! (leaves k (is-k .1) (worked hs) (listed hs) (calls-told ws n base ts d₀ (begun zs) (passed us) f₀ (listed hs) found cause rounds on (e₆ .0)
+        k e₁ e₂ e₃ e₄ e₅ (l₂′ ∙ l₁′) ll (e₆ .1 .0) (e₆ .1 .1)) (lw ∙ l₂′ ∙ l₁′) ll)))))))))))))))))))))))))))))))))
       where
         room : (ds : List ℤ) → length ds ≡ length d₀ → Room i64 (length ds)
         room ds e = subst (Room i64) (sym e) rw

@@ -32,8 +32,8 @@ use sound.WpLaws.{fmOf, WpFn-mono}
 use types.Kit.{Given, Item, ‵, raw, _⊛_, ⋆, anyQ, atRet, _$_, _∵_, !, qed, by, move, keep, use1, use2, drop as forgo, split, join, rewrite, fsplit}
 use types.Kit.{fjoin, suffices, frame, done}
 use types.Part.{agg, whole, sub, look-in}
-use types.Run.{look, look-raw, store, init, forget, stop, hop, fld, from, load, lit, false-lit, addr, of-opd, bin, and-then, no-more, assigns, assigns-last}
-use types.Run.{land, stays, leaves-loop, returns, enter, alloc1, alloc0, params1, pass1, pass0, exec}
+use types.Run.{look, look-raw, store, init, forget, stop, hop, fld, from, load, lit, false-lit, addr}
+use types.Run.{of-opd, bin, and-then, no-more, stays, leaves-loop, returns, enter, alloc1, alloc0, params1, pass1, pass0, exec}
 use types.Share.{arr-parts}
 use denote.RattleType.{RattleType, owns}
 use denote.Laws.{Is, shows}
@@ -60,7 +60,8 @@ use Rattle.offsets.specs.Relax.{State, relaxed, relaxTie, relaxAll}
 use Rattle.offsets.specs.declared.Tie.{Tie}
 use Rattle.offsets.proofs.ReborrowLaws.{lends, takes-back}
 use Rattle.offsets.proofs.TurnLaws.{none}
-use Rattle.offsets.proofs.WalkLaws.{cell, from-to, empty, holds, cells, frees-all, past, as-long, number, truth, of-bool, answers, walks-list}
+use Rattle.offsets.proofs.WalkLaws.{cell, from-to, empty, holds, cells, frees-all, past, as-long, number}
+use Rattle.offsets.proofs.WalkLaws.{truth, of-bool, answers, walks-list, held, hands, puts, puts-last, lands-in}
 use Rattle.offsets.proofs.Tie as T
 use Rattle.offsets.proofs.Tie.Laws as T′
 use Rattle.offsets.proofs.relax as relax
@@ -148,12 +149,10 @@ module _ {M : Type 1} (𝓤 : URA M) (H : Heap 𝓤) (A : Atoms 𝓤) (W : Given
       → ent 𝓤 (⋆ 𝓤 H A (‵ (flft κ q) ∷ ‵ (flft κ′ q′) ∷ ‵ (OwnD ds (length ds)) ∷ ‵ OwnT ∷ [])) (Post (vbool c))
   exits ds c l e =
       qed W (‵ (flft κ q) ∷ ‵ (flft κ′ q′) ∷ ‵ (OwnD ds (length ds)) ∷ ‵ OwnT ∷ []) ∵ rewrite ! 2 (λ (k : ℕ). ‵ (OwnD ds k)) l refl $
-      suffices ! _ (ends-at 𝓤 H A pass.ended stayed (pass.clauses 𝓤 H A at-mem run) W (
-        ((κ, (κ′, tt)), (q, (q′, tt)), tt, a, at),
-        tt,
-      ) (vbool c) c (tt, (tt, (ds, tt))) (tt, (tt, (l, tt)))) $ says ! e $
-      nothing ! $ move ! (2 ∷ 0 ∷ []) $ join ! $ move ! (1 ∷ 0 ∷ []) $ join ! $ frame ! $
-      nothing ! $ move ! (1 ∷ 0 ∷ []) $ fjoin ! $ number ! w16 m (refl, m-fits) $ move ! (1 ∷ 0 ∷ []) $ fjoin ! $ frame ! $ owned ! bool (Is bool) (bool-makes 𝓤 H A W) c _ refl $ done !
+      suffices ! _ (ends-at 𝓤 H A pass.ended stayed (pass.clauses 𝓤 H A at-mem run) W (((κ, (κ′, tt)), (q, (q′, tt)), tt, a, at), tt) (vbool c) c
+      (tt, (tt, (ds, tt))) (tt, (tt, (l, tt)))) $ says ! e $ nothing ! $ move ! (2 ∷ 0 ∷ []) $ join ! $ move ! (1 ∷ 0 ∷ []) $ join ! $ frame ! $
+      nothing ! $ move ! (1 ∷ 0 ∷ []) $ fjoin ! $ number ! w16 m (refl, m-fits) $ move ! (1 ∷ 0 ∷ []) $ fjoin ! $ frame ! $
+      owned ! bool (Is bool) (bool-makes 𝓤 H A W) c _ refl $ done !
 
   -- what `relax`'s triple binds outside: the numbers of a tie, and d lent again for the lifetime ν, under the name δ
   module _ (t : Tie) (ds : List ℤ) (c : Bool) where
@@ -189,13 +188,11 @@ module _ {M : Type 1} (𝓤 : URA M) (H : Heap 𝓤) (A : Atoms 𝓤) (W : Given
         (Relax 𝓤 H A at-mem run .pre (to-relax ν δ))
     goes is ν δ =
         let fields = LL.owed T.the-type T′.the-laws t _ is in
-        qed W (‵ (flft (ν ∷ []) fullShare) ∷ ‵ (MutSlice (named 0) (ν ∷ []) i64 .own (x δ ds) (s (length ds) ∷ [])) ∷ []) ∵
-        nothing ! $ move ! (2 ∷ 0 ∷ []) $ fjoin ! $ owned ! i32 (Is i32) (sint-makes 𝓤 H A W w32) (t .most) _ (refl, fields .1 .1 .1 .0 .1) $
-        fjoin ! $ owned ! i32 (Is i32) (sint-makes 𝓤 H A W w32) (t .least) _ (refl, fields .1 .1 .0 .1) $ fjoin ! $
-        number ! w16 (t .second) (refl, fields .1 .0 .1) $
-        number ! w16 (t .first) (refl, fields .0 .1) $
-        number ! w16 m (refl, m-fits) $ truth ! c $
-        nothing ! $ move ! (2 ∷ 0 ∷ []) $ join ! $ join ! $ frame ! $ done !
+        qed W (‵ (flft (ν ∷ []) fullShare) ∷ ‵ (MutSlice (named 0) (ν ∷ []) i64 .own (x δ ds) (s (length ds) ∷ [])) ∷ []) ∵ nothing ! $
+        move ! (2 ∷ 0 ∷ []) $ fjoin ! $ owned ! i32 (Is i32) (sint-makes 𝓤 H A W w32) (t .most) _ (refl, fields .1 .1 .1 .0 .1) $ fjoin ! $
+        owned ! i32 (Is i32) (sint-makes 𝓤 H A W w32) (t .least) _ (refl, fields .1 .1 .0 .1) $ fjoin ! $ number ! w16 (t .second) (refl, fields .1 .0 .1) $
+        number ! w16 (t .first) (refl, fields .0 .1) $ number ! w16 m (refl, m-fits) $ truth ! c $ nothing ! $ move ! (2 ∷ 0 ∷ []) $ join ! $ join ! $
+        frame ! $ done !
 
   module _ (𝓣 : Tables 𝓤 H) (known : Triple 𝓤 (𝓣 .C #offsets·relax) (Relax 𝓤 H A at-mem run))
       (rt : Room R n) (rd : Room i64 (length d₀)) (l₀ l₁ l₂ l₃ l₄ l₅ l₆ l₇ l₈ l₉ l₁₀ l₁₁ l₁₂ : ℕ) where
@@ -228,61 +225,49 @@ module _ {M : Type 1} (𝓤 : URA M) (H : Heap 𝓤) (A : Atoms 𝓤) (W : Given
     more i ds c X small len k =
         qed W (At i ds c) ∵ exec ! C Λ En mir.turn-1 (anyQ (afterTurn 𝓤 H X Left)) $
         -- _7 = ties.len(); _8 = i < _7; the loop goes on
-        assigns ! (of-opd ! (load ! (from ! (fld ! refl (stop !))) (look-in ! (local 5 1) (sub ! 1 refl (whole !)))))
-        (from ! (stop !)) (init ! (local 5 7) refl (tt, record { fits = rt .0 })) $
-        assigns ! (bin ! (load ! (from ! (stop !)) (look ! (local 5 4) refl)) (load ! (from ! (stop !)) (look ! (local 5 7) refl)) tt)
-        (from ! (stop !)) (init ! (local 5 8) refl (tt, tt)) $
-        rewrite ! (local 5 8) (λ (u : Bool). ‵ (fat fullShare tyBool l₈ 0 (vbool u))) (lt-ltb i n small) refl $
-        stays ! (load ! (from ! (stop !)) (look ! (local 5 8) refl)) $
+        puts ! (of-opd ! (load ! (from ! (fld ! refl (stop !))) (look-in ! (local 5 1) (sub ! 1 refl (whole !)))))
+        (init ! (local 5 7) refl (tt, record { fits = rt .0 })) $
+        puts ! (bin ! (held ! (local 5 4) refl) (held ! (local 5 7) refl) tt) (init ! (local 5 8) refl (tt, tt)) $
+        rewrite ! (local 5 8) (λ (u : Bool). ‵ (fat fullShare tyBool l₈ 0 (vbool u))) (lt-ltb i n small) refl $ stays ! (held ! (local 5 8) refl) $
         -- _7 = i * 12; _9 = the place of ties[i]
-        assigns ! (bin ! (load ! (from ! (stop !)) (look ! (local 5 4) refl)) (lit ! tt) (record { fits = place-fits }))
-        (from ! (stop !)) (store ! (local 5 7) refl (tt, record { fits = place-fits })) $
-        assigns ! (bin ! (load ! (from ! (fld ! refl (stop !))) (look-in ! (local 5 1) (sub ! 0 refl (whole !)))) (load ! (from ! (stop !))
-        (look ! (local 5 7) refl)) tt) (from ! (stop !)) (init ! (local 5 9) refl (tt, tt)) $
-        rewrite ! (local 5 9) (λ (p : ℕ). ‵ (fat fullShare tyPtr l₉ 0 (vptr b p))) (sym (place-is 12 o i)) refl $
+        puts ! (bin ! (held ! (local 5 4) refl) (lit ! tt) (record { fits = place-fits })) (store ! (local 5 7) refl (tt, record { fits = place-fits })) $
+        puts ! (bin ! (load ! (from ! (fld ! refl (stop !))) (look-in ! (local 5 1) (sub ! 0 refl (whole !)))) (held ! (local 5 7) refl) tt)
+        (init ! (local 5 9) refl (tt, tt)) $ rewrite ! (local 5 9) (λ (p : ℕ). ‵ (fat fullShare tyPtr l₉ 0 (vptr b p))) (sym (place-is 12 o i)) refl $
         -- _10 = ties[i]: the borrow is looked into, the tie is taken out and copied, and all is put back
-        looks-slice ! tt R (Is R) (shows 𝓤 H A R) vals (LL.tells T.the-type T′.the-laws) (LL.copy T.the-type T′.the-copy 𝓤 H A W)
-        ts b o (λ p. elem-out ! R (Is R) (shows 𝓤 H A R) vals (LL.tells T.the-type T′.the-laws) p ts i none b o small (λ is.
+        looks-slice ! tt R (Is R) (shows 𝓤 H A R) vals (LL.tells T.the-type T′.the-laws) (LL.copy T.the-type T′.the-copy 𝓤 H A W) ts b o
+        (λ p. elem-out ! R (Is R) (shows 𝓤 H A R) vals (LL.tells T.the-type T′.the-laws) p ts i none b o small (λ is.
         -- [the tie's cell; what it owns; the others; the open borrow; the fractured borrow; what d owns; its token; what the ties own; the locals]
-        assigns ! (of-opd ! (load ! (from ! (hop ! (look ! (local 8 9) refl) (stop !))) (look-raw ! 0 refl)))
-        (from ! (stop !)) (init ! (local 8 10) refl (typed is)) $
+        puts ! (of-opd ! (load ! (from ! (hop ! (look ! (local 8 9) refl) (stop !))) (look-raw ! 0 refl))) (init ! (local 8 10) refl (typed is)) $
         elem-back ! R p ts i none (vals tie) b o small $ shuts-slice ! tt R p ts b o $
         -- t = _10. [the ties' token; the fractured borrow; what d owns; its token; what the ties own; the locals]
-        assigns ! (of-opd ! (load ! (from ! (stop !)) (look ! (local 5 10) refl))) (from ! (stop !)) (init ! (local 5 6) refl (typed is)) $
+        puts ! (of-opd ! (held ! (local 5 10) refl)) (init ! (local 5 6) refl (typed is)) $
         -- _12 = d lent again, by _11, for a lifetime ν of the call
-        assigns ! (addr ! (from ! (fld ! refl (hop ! (look-in ! (local 5 3) (sub ! 0 refl (whole !))) (stop !)))))
-        (from ! (stop !)) (init ! (local 5 11) refl (tt, tt)) $
-        assigns !
-        (agg ! (and-then ! (load ! (from ! (stop !)) (look ! (local 5 11) refl))
-        (and-then ! (load ! (from ! (fld ! refl (stop !))) (look-in ! (local 5 3) (sub ! 1 refl (whole !)))) (no-more !))))
-        (from ! (stop !)) (init ! (local 5 12) refl (tt, (tt, (record { fits = room .0 }, tt)))) $
-        move ! (2 ∷ 3 ∷ []) $ lends ! tt i64 κ′ q′ γ′ b′ o′ (named 1) (named 0) ds (λ ν δ.
+        puts ! (addr ! (from ! (fld ! refl (hop ! (look-in ! (local 5 3) (sub ! 0 refl (whole !))) (stop !))))) (init ! (local 5 11) refl (tt, tt)) $
+        puts ! (agg ! (hands ! (local 5 11) refl (and-then ! (load ! (from ! (fld ! refl (stop !))) (look-in ! (local 5 3) (sub ! 1 refl (whole !))))
+        (no-more !)))) (init ! (local 5 12) refl (tt, (tt, (record { fits = room .0 }, tt)))) $ move ! (2 ∷ 3 ∷ []) $
+        lends ! tt i64 κ′ q′ γ′ b′ o′ (named 1) (named 0) ds (λ ν δ.
         -- changed = relax(changed, n, t.first, t.second, t.least, t.most, _12)
         use2 W (raw (Relax 𝓤 H A at-mem run .pre (to-relax tie ds c ν δ))) (goes tie ds c is ν δ) $
         -- [what `relax` asks; what is kept of d; the ties' token; the fractured borrow; what the ties own; the locals]
         answers ! (fmOf 𝓤 H (W .laws) 𝓣) (Relax 𝓤 H A at-mem run) known (to-relax tie ds c ν δ)
-        (and-then ! (load ! (from ! (stop !)) (look ! (local 5 5) refl))
-        (and-then ! (load ! (from ! (stop !)) (look ! (local 5 2) refl))
-        (and-then ! (load ! (from ! (fld ! refl (stop !))) (look-in ! (local 5 6) (sub ! 0 refl (whole !))))
-        (and-then ! (load ! (from ! (fld ! refl (stop !))) (look-in ! (local 5 6) (sub ! 1 refl (whole !))))
-        (and-then ! (load ! (from ! (fld ! refl (stop !))) (look-in ! (local 5 6) (sub ! 2 refl (whole !))))
-        (and-then ! (load ! (from ! (fld ! refl (stop !))) (look-in ! (local 5 6) (sub ! 3 refl (whole !))))
-        (and-then ! (load ! (from ! (stop !)) (look ! (local 5 12) refl)) (no-more !))))))))
-        bool of-bool (‵ (flft (ν ∷ []) fullShare) ⊛ ‵ ftrue) (lasts relax.ended (ν ∷ [], tt) (args tie ds c δ)) Said (λ w. id⊢ 𝓤 _) (λ r zs is-r e.
+        (hands ! (local 5 5) refl (hands ! (local 5 2) refl (and-then ! (load ! (from ! (fld ! refl (stop !)))
+        (look-in ! (local 5 6) (sub ! 0 refl (whole !)))) (and-then ! (load ! (from ! (fld ! refl (stop !)))
+        (look-in ! (local 5 6) (sub ! 1 refl (whole !)))) (and-then ! (load ! (from ! (fld ! refl (stop !)))
+        (look-in ! (local 5 6) (sub ! 2 refl (whole !)))) (and-then ! (load ! (from ! (fld ! refl (stop !)))
+        (look-in ! (local 5 6) (sub ! 3 refl (whole !)))) (hands ! (local 5 12) refl (no-more !)))))))) bool of-bool
+        (‵ (flft (ν ∷ []) fullShare) ⊛ ‵ ftrue) (lasts relax.ended (ν ∷ [], tt) (args tie ds c δ)) Said (λ w. id⊢ 𝓤 _) (λ r zs is-r e.
         -- [the call's token, and true; what is said of what was lent; what is kept of d; the ties' token; the fractured borrow; what the ties own; the locals]
-        land ! (from ! (stop !)) (store ! (local 6 5) refl (tt, tt)) $
+        lands-in ! (store ! (local 6 5) refl (tt, tt)) $
         -- the lifetime is ended, and d comes back at the last list
         move ! (1 ∷ []) $ past ! $ past ! $ past ! $ past ! $ past ! $ past ! $ as-long ! (λ l. move ! (2 ∷ []) $ split ! $ move ! (0 ∷ 4 ∷ 2 ∷ []) $
         takes-back ! tt i64 κ′ q′ γ′ b′ o′ (named 1) (named 0) ds (last zs) δ room l $
         -- [what d owns; its token; true; true; the ties' token; the fractured borrow; what the ties own; the locals]
         rewrite ! (local 7 3) (λ (m : ℕ). ‵ (fat fullShare d-ty l₃ 0 (s m))) (sym l) refl $
         -- i = i + 1
-        assigns-last ! (bin ! (load ! (from ! (stop !)) (look ! (local 7 4) refl)) (lit ! tt) (record { fits = next-fits }))
-        (from ! (stop !)) (store ! (local 7 4) refl (tt, record { fits = next-fits })) $
-        rewrite ! (local 7 4) (λ (j : ℕ). ‵ (fat fullShare word l₄ 0 (vint w64 j))) (add-one i) refl $
-        forget ! (local 7 6) refl $ forget ! (local 7 7) refl $ forget ! (local 7 8) refl $ forget ! (local 7 9) refl $
-        forget ! (local 7 10) refl $ forget ! (local 7 11) refl $ forget ! (local 7 12) refl $
-        keep ! (5 ∷ 4 ∷ 0 ∷ 1 ∷ 6 ∷ from-to 7 26) $ by ! (k (last zs) r (l ∙ len) e))))))
+        puts-last ! (bin ! (held ! (local 7 4) refl) (lit ! tt) (record { fits = next-fits })) (store ! (local 7 4) refl (tt, record { fits = next-fits }))
+        $ rewrite ! (local 7 4) (λ (j : ℕ). ‵ (fat fullShare word l₄ 0 (vint w64 j))) (add-one i) refl $ forget ! (local 7 6) refl $
+        forget ! (local 7 7) refl $ forget ! (local 7 8) refl $ forget ! (local 7 9) refl $ forget ! (local 7 10) refl $ forget ! (local 7 11) refl $
+        forget ! (local 7 12) refl $ keep ! (5 ∷ 4 ∷ 0 ∷ 1 ∷ 6 ∷ from-to 7 26) $ by ! (k (last zs) r (l ∙ len) e))))))
       where
         tie : Tie
         tie = getD ts i none
@@ -315,17 +300,15 @@ module _ {M : Type 1} (𝓤 : URA M) (H : Heap 𝓤) (A : Atoms 𝓤) (W : Given
     ends ds c X len e =
         qed W (At n ds c) ∵ exec ! C Λ En mir.turn-1 (anyQ (afterTurn 𝓤 H X Left)) $
         -- _7 = ties.len(); _8 = i < _7; the loop is left
-        assigns ! (of-opd ! (load ! (from ! (fld ! refl (stop !))) (look-in ! (local 5 1) (sub ! 1 refl (whole !)))))
-        (from ! (stop !)) (init ! (local 5 7) refl (tt, record { fits = rt .0 })) $
-        assigns ! (bin ! (load ! (from ! (stop !)) (look ! (local 5 4) refl)) (load ! (from ! (stop !)) (look ! (local 5 7) refl)) tt)
-        (from ! (stop !)) (init ! (local 5 8) refl (tt, tt)) $
+        puts ! (of-opd ! (load ! (from ! (fld ! refl (stop !))) (look-in ! (local 5 1) (sub ! 1 refl (whole !)))))
+        (init ! (local 5 7) refl (tt, record { fits = rt .0 })) $
+        puts ! (bin ! (held ! (local 5 4) refl) (held ! (local 5 7) refl) tt) (init ! (local 5 8) refl (tt, tt)) $
         rewrite ! (local 5 8) (λ (u : Bool). ‵ (fat fullShare tyBool l₈ 0 (vbool u))) (le-ltb n n (le-refl n)) refl $
-        leaves-loop ! (load ! (from ! (stop !)) (look ! (local 5 8) refl)) $ exec ! C Λ En mir.t-4 (atRet En Post) $
+        leaves-loop ! (held ! (local 5 8) refl) $ exec ! C Λ En mir.t-4 (atRet En Post) $
         -- _0 = changed; the locals are freed
-        assigns ! (of-opd ! (load ! (from ! (stop !)) (look ! (local 5 5) refl))) (from ! (stop !)) (init ! (local 5 0) refl (tt, tt)) $
-        returns ! (look ! (local 5 0) refl) $
-        frees-all ! 5 (holds _ ∷ holds _ ∷ holds _ ∷ holds _ ∷ holds _ ∷ holds _ ∷ empty ∷ holds _ ∷ holds _ ∷ []) refl $
-        keep ! (1 ∷ 3 ∷ 2 ∷ 4 ∷ []) $ by ! (exits ds c len e)
+        puts ! (of-opd ! (held ! (local 5 5) refl)) (init ! (local 5 0) refl (tt, tt)) $ returns ! (look ! (local 5 0) refl) $
+        frees-all ! 5 (holds _ ∷ holds _ ∷ holds _ ∷ holds _ ∷ holds _ ∷ holds _ ∷ empty ∷ holds _ ∷ holds _ ∷ []) refl $ keep ! (1 ∷ 3 ∷ 2 ∷ 4 ∷ []) $
+        by ! (exits ds c len e)
 
     loops : ent 𝓤 (⋆ 𝓤 H A (At 0 d₀ false)) (Wp 𝓤 H C Λ En (loop mir.turn-1) Left)
     loops =
@@ -338,28 +321,23 @@ module _ {M : Type 1} (𝓤 : URA M) (H : Heap 𝓤) (A : Atoms 𝓤) (W : Given
       → ent 𝓤 (onEntry 𝓤 H A pass.signature (κ, (κ′, tt)) (q, (q′, tt)) a at)
       (WpFn 𝓤 H (𝓣 .C) (𝓣 .Λ) code.function (sliceVal (b, o) n ∷ vint w16 m ∷ s (length d₀) ∷ []) Post)
   walk 𝓣 known rt rd =
-      qed W ((‵ (flft κ q) ⊛ ‵ (flft κ′ q′) ⊛ ‵ ftrue) ∷ ‵ (owns (ShrSlice (named 0) κ R ∷ u16 ∷ MutSlice (named 1) κ′ i64 ∷ []) a at) ∷ [])
-      ∵ enter ! (𝓣 .C) (𝓣 .Λ) code.function (sliceVal (b, o) n ∷ vint w16 m ∷ s (length d₀) ∷ []) _ $
-      alloc1 !
-      (λ l₀. alloc1 !
-      (λ l₁. alloc1 !
-      (λ l₂. alloc1 !
-      (λ l₃. alloc1 !
-      (λ l₄. alloc1 !
-      (λ l₅. alloc1 ! (λ l₆. alloc1 ! (λ l₇. alloc1 ! (λ l₈. alloc1 ! (λ l₉. alloc1 ! (λ l₁₀. alloc1 ! (λ l₁₁. alloc1 ! (λ l₁₂. alloc0 ! $ params1 ! $
-      pass1 ! (init ! (local 0 1) refl (tt, (tt, (record { fits = rt .0 }, tt)))) $ pass1 ! (init ! (local 0 2) refl (tt, record { fits = m-fits })) $
-      pass1 ! (init ! (local 0 3) refl (tt, (tt, (record { fits = rd .0 }, tt)))) $ pass0 ! $
+      qed W ((‵ (flft κ q) ⊛ ‵ (flft κ′ q′) ⊛ ‵ ftrue) ∷ ‵ (owns (ShrSlice (named 0) κ R ∷ u16 ∷ MutSlice (named 1) κ′ i64 ∷ []) a at) ∷ []) ∵ enter !
+      (𝓣 .C) (𝓣 .Λ) code.function (sliceVal (b, o) n ∷ vint w16 m ∷ s (length d₀) ∷ []) _ $
+      alloc1 ! (λ l₀. alloc1 ! (λ l₁. alloc1 ! (λ l₂. alloc1 ! (λ l₃. alloc1 !
+      (λ l₄. alloc1 ! (λ l₅. alloc1 ! (λ l₆. alloc1 ! (λ l₇. alloc1 ! (λ l₈. alloc1 ! (λ l₉. alloc1 ! (λ l₁₀. alloc1 ! (λ l₁₁. alloc1 ! (λ l₁₂. alloc0 ! $
+      params1 ! $ pass1 ! (init ! (local 0 1) refl (tt, (tt, (record { fits = rt .0 }, tt)))) $
+      pass1 ! (init ! (local 0 2) refl (tt, record { fits = m-fits })) $ pass1 ! (init ! (local 0 3) refl (tt, (tt, (record { fits = rd .0 }, tt)))) $
+      pass0 ! $
       -- i = 0; changed = false
-      assigns ! (of-opd ! (lit ! tt)) (from ! (stop !)) (init ! (local 0 4) refl (tt, record { fits = lit< tt })) $
-      assigns ! (of-opd ! (false-lit !)) (from ! (stop !)) (init ! (local 0 5) refl (tt, tt)) $
+      puts ! (of-opd ! (lit ! tt)) (init ! (local 0 4) refl (tt, record { fits = lit< tt })) $
+      puts ! (of-opd ! (false-lit !)) (init ! (local 0 5) refl (tt, tt)) $
       -- what ties owns is had twice: one copy is kept whole for the exit, and of the other the fractured borrow is kept
-      move ! (27 ∷ []) $ fsplit ! $ use1 W (‵ OwnT ⊛ ‵ OwnT) (shr-slice-copy 𝓤 H A W (named 0) κ R .twice y (sliceVal (b, o) n ∷ [])) $
-      split ! $ fsplit ! $ forgo ! $ fsplit ! $ forgo ! $
+      move ! (27 ∷ []) $ fsplit ! $ use1 W (‵ OwnT ⊛ ‵ OwnT) (shr-slice-copy 𝓤 H A W (named 0) κ R .twice y (sliceVal (b, o) n ∷ [])) $ split ! $ fsplit ! $
+      forgo ! $ fsplit ! $ forgo ! $
       -- [the fractured borrow; what ties owns; what n owns, what d owns, and true; the locals, the last first; the tokens]
       move ! (2 ∷ []) $ fsplit ! $ forgo ! $ fsplit ! $ move ! (30 ∷ []) $ split ! $ move ! (1 ∷ []) $ split ! $
       -- [d's token; true; the ties' token; what d owns; true; the fractured borrow; what ties owns; _12; …; _0; …]
-      keep ! (5 ∷ 2 ∷ 3 ∷ 0 ∷ 6 ∷ from-to 7 26) $
-      by ! (loops 𝓣 known rt rd l₀ l₁ l₂ l₃ l₄ l₅ l₆ l₇ l₈ l₉ l₁₀ l₁₁ l₁₂))))))))))))))
+      keep ! (5 ∷ 2 ∷ 3 ∷ 0 ∷ 6 ∷ from-to 7 26) $ by ! (loops 𝓣 known rt rd l₀ l₁ l₂ l₃ l₄ l₅ l₆ l₇ l₈ l₉ l₁₀ l₁₁ l₁₂))))))))))))))
 
 module _ {M : Type 1} (𝓤 : URA M) (H : Heap 𝓤) (A : Atoms 𝓤) (W : Given 𝓤 H A) (mem : Memory → SProp 𝓤)
     (run : Routine → Fun 𝓤) (𝓣 : Tables 𝓤 H) (known : Triple 𝓤 (𝓣 .C #offsets·relax) (Relax 𝓤 H A mem run)) where

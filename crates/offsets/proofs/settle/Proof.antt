@@ -30,8 +30,8 @@ use sound.WpLaws.{fmOf, WpFn-mono}
 use types.Kit.{Given, Item, ‵, raw, _⊛_, ⋆, anyQ, atRet, _$_, _∵_, !, qed, by, move, keep, use1, use3, drop, split, join, rewrite, fsplit, fjoin}
 use types.Kit.{suffices, frame, done}
 use types.Part.{agg, whole, sub, look-in}
-use types.Run.{look, store, init, forget, stop, hop, fld, from, load, lit, false-lit, addr, of-opd, bin, and-then, no-more, assigns, land, land-last, stays}
-use types.Run.{leaves-loop, returns, enter, alloc1, alloc0, params1, pass1, pass0, exec}
+use types.Run.{look, store, init, forget, stop, hop, fld, from, load, lit, false-lit, addr, of-opd}
+use types.Run.{bin, and-then, no-more, stays, leaves-loop, returns, enter, alloc1, alloc0, params1, pass1, pass0, exec}
 use denote.RattleType.{RattleType, owns}
 use denote.Laws.{Is}
 use denote.Memory.{pointee}
@@ -54,7 +54,8 @@ use Rattle.offsets.specs.Relax.{State, relaxAll, leftAfter, settled}
 use Rattle.offsets.specs.declared.Tie.{Tie}
 use Rattle.offsets.proofs.ReborrowLaws.{lends, takes-back}
 use Rattle.offsets.proofs.TurnLaws.{passes-again, passes-fewer}
-use Rattle.offsets.proofs.WalkLaws.{cell, from-to, empty, holds, cells, frees-all, past, as-long, number, truth, of-uint, of-bool, answers, answers-last, walks-loop}
+use Rattle.offsets.proofs.WalkLaws.{cell, from-to, empty, holds, cells, frees-all, past, as-long, number, truth}
+use Rattle.offsets.proofs.WalkLaws.{of-uint, of-bool, answers, answers-last, walks-loop, held, hands, puts, lands-in, lands-last}
 use Rattle.offsets.proofs.Tie as T
 use Rattle.offsets.proofs.pass as pass
 use Rattle.offsets.proofs.pass.Symbol as pass-def
@@ -145,14 +146,10 @@ module _ {M : Type 1} (𝓤 : URA M) (H : Heap 𝓤) (A : Atoms 𝓤) (W : Given
       → ent 𝓤 (⋆ 𝓤 H A (‵ (flft κ q) ∷ ‵ (flft κ′ q′) ∷ ‵ (OwnD ds (length ds)) ∷ ‵ OwnT ∷ [])) (Post (vbool c))
   exits ds c l e =
       qed W (‵ (flft κ q) ∷ ‵ (flft κ′ q′) ∷ ‵ (OwnD ds (length ds)) ∷ ‵ OwnT ∷ []) ∵ rewrite ! 2 (λ (k : ℕ). ‵ (OwnD ds k)) l refl $
-      suffices ! _ (ends-at 𝓤 H A settle.ended stayed (settle.clauses 𝓤 H A at-mem run) W (
-        ((κ, (κ′, tt)), (q, (q′, tt)), tt, a, at),
-        tt,
-      ) (vbool c) c (tt, (tt, (tt, (ds, tt)))) (tt, (tt, (tt, (l, tt))))) $ says ! e $
-      nothing ! $ move ! (2 ∷ 0 ∷ []) $ join ! $ move ! (1 ∷ 0 ∷ []) $ join ! $ frame ! $
-      nothing ! $ move ! (1 ∷ 0 ∷ []) $ fjoin ! $ number ! w64 m (refl, m-fits) $
-      number ! w16 n (refl, n-fits) $ move ! (1 ∷ 0 ∷ []) $
-      fjoin ! $ frame ! $ owned ! bool (Is bool) (bool-makes 𝓤 H A W) c _ refl $ done !
+      suffices ! _ (ends-at 𝓤 H A settle.ended stayed (settle.clauses 𝓤 H A at-mem run) W (((κ, (κ′, tt)), (q, (q′, tt)), tt, a, at), tt) (vbool c) c
+      (tt, (tt, (tt, (ds, tt)))) (tt, (tt, (tt, (l, tt))))) $ says ! e $ nothing ! $ move ! (2 ∷ 0 ∷ []) $ join ! $ move ! (1 ∷ 0 ∷ []) $ join ! $ frame ! $
+      nothing ! $ move ! (1 ∷ 0 ∷ []) $ fjoin ! $ number ! w64 m (refl, m-fits) $ number ! w16 n (refl, n-fits) $ move ! (1 ∷ 0 ∷ []) $ fjoin ! $ frame ! $
+      owned ! bool (Is bool) (bool-makes 𝓤 H A W) c _ refl $ done !
 
   -- what `pass`'s triple binds outside: ties as it is, and d lent again for the lifetime ν, under the name δ
   module _ (ds : List ℤ) where
@@ -172,8 +169,8 @@ module _ {M : Type 1} (𝓤 : URA M) (H : Heap 𝓤) (A : Atoms 𝓤) (W : Given
         (Pass 𝓤 H A at-mem run .pre (to-pass ν δ))
     goes ν δ =
         qed W ((‵ (flft κ q) ⊛ ‵ (flft (ν ∷ []) fullShare)) ∷ ‵ OwnT ∷ ‵ (Lent ν δ) ∷ []) ∵ nothing ! $ move ! (3 ∷ 0 ∷ []) $ fjoin ! $
-        number ! w16 n (refl, n-fits) $ move ! (2 ∷ 0 ∷ []) $ fjoin ! $ move ! (1 ∷ []) $ split ! $
-        nothing ! $ move ! (2 ∷ 0 ∷ []) $ join ! $ move ! (1 ∷ 0 ∷ []) $ join ! $ join ! $ frame ! $ done !
+        number ! w16 n (refl, n-fits) $ move ! (2 ∷ 0 ∷ []) $ fjoin ! $ move ! (1 ∷ []) $ split ! $ nothing ! $ move ! (2 ∷ 0 ∷ []) $ join ! $
+        move ! (1 ∷ 0 ∷ []) $ join ! $ join ! $ frame ! $ done !
 
   -- what `left_after`'s triple binds outside: it has no lifetime
   module _ (r : Bool) (t : ℕ) where
@@ -185,8 +182,7 @@ module _ {M : Type 1} (𝓤 : URA M) (H : Heap 𝓤) (A : Atoms 𝓤) (W : Given
 
     goes-left : t < 2 ^ 64 → ent 𝓤 (sem 𝓤 H A ftrue) (LeftAfter 𝓤 H A at-mem run .pre to-left)
     goes-left fits =
-        qed W (‵ ftrue ∷ []) ∵ nothing ! $ number ! w64 t (refl, fits) $
-        truth ! r $ move ! (1 ∷ 0 ∷ []) $ join ! $ frame ! $ done !
+        qed W (‵ ftrue ∷ []) ∵ nothing ! $ number ! w64 t (refl, fits) $ truth ! r $ move ! (1 ∷ 0 ∷ []) $ join ! $ frame ! $ done !
 
   module _ (𝓣 : Tables 𝓤 H) (known-pass : Triple 𝓤 (𝓣 .C #offsets·pass) (Pass 𝓤 H A at-mem run))
       (known-left : Triple 𝓤 (𝓣 .C #offsets·left-after) (LeftAfter 𝓤 H A at-mem run)) (rd : Room i64 (length d₀)) (l₀ l₁ l₂ l₃ l₄ l₅ l₆ l₇ l₈ l₉ : ℕ) where
@@ -223,27 +219,22 @@ module _ {M : Type 1} (𝓤 : URA M) (H : Heap 𝓤) (A : Atoms 𝓤) (W : Given
     more t ds c X some-left t-fits len k =
         qed W (At t ds c) ∵ exec ! C Λ En mir.turn-1 (anyQ (afterTurn 𝓤 H X Left)) $
         -- _7 = 0 < left; the loop goes on
-        assigns ! (bin ! (lit ! tt) (load ! (from ! (stop !)) (look ! (local 4 5) refl)) tt) (from ! (stop !)) (init ! (local 4 7) refl (tt, tt)) $
-        rewrite ! (local 4 7) (λ (u : Bool). ‵ (fat fullShare tyBool l₇ 0 (vbool u))) (lt-ltb 0 t some-left) refl $
-        stays ! (load ! (from ! (stop !)) (look ! (local 4 7) refl)) $
+        puts ! (bin ! (lit ! tt) (held ! (local 4 5) refl) tt) (init ! (local 4 7) refl (tt, tt)) $
+        rewrite ! (local 4 7) (λ (u : Bool). ‵ (fat fullShare tyBool l₇ 0 (vbool u))) (lt-ltb 0 t some-left) refl $ stays ! (held ! (local 4 7) refl) $
         -- _9 = d lent again, by _8, for a lifetime ν of the call; a copy of what the ties own
-        assigns ! (addr ! (from ! (fld ! refl (hop ! (look-in ! (local 4 4) (sub ! 0 refl (whole !))) (stop !)))))
-        (from ! (stop !)) (init ! (local 4 8) refl (tt, tt)) $
-        assigns !
-        (agg ! (and-then ! (load ! (from ! (stop !)) (look ! (local 4 8) refl))
-        (and-then ! (load ! (from ! (fld ! refl (stop !))) (look-in ! (local 4 4) (sub ! 1 refl (whole !)))) (no-more !))))
-        (from ! (stop !)) (init ! (local 4 9) refl (tt, (tt, (record { fits = room .0 }, tt)))) $
-        move ! (3 ∷ []) $ use1 W (‵ OwnT ⊛ ‵ OwnT) (shr-slice-copy 𝓤 H A W (named 0) κ R .twice y (v ∷ [])) $ split ! $
-        move ! (3 ∷ 4 ∷ []) $ lends ! tt i64 κ′ q′ γ′ b′ o′ (named 1) (named 1) ds (λ ν δ.
+        puts ! (addr ! (from ! (fld ! refl (hop ! (look-in ! (local 4 4) (sub ! 0 refl (whole !))) (stop !))))) (init ! (local 4 8) refl (tt, tt)) $
+        puts ! (agg ! (hands ! (local 4 8) refl (and-then ! (load ! (from ! (fld ! refl (stop !))) (look-in ! (local 4 4) (sub ! 1 refl (whole !))))
+        (no-more !)))) (init ! (local 4 9) refl (tt, (tt, (record { fits = room .0 }, tt)))) $ move ! (3 ∷ []) $
+        use1 W (‵ OwnT ⊛ ‵ OwnT) (shr-slice-copy 𝓤 H A W (named 0) κ R .twice y (v ∷ [])) $ split ! $ move ! (3 ∷ 4 ∷ []) $
+        lends ! tt i64 κ′ q′ γ′ b′ o′ (named 1) (named 1) ds (λ ν δ.
         -- on = pass(ties, n, _9)
         move ! (5 ∷ 0 ∷ []) $ join ! $ move ! (0 ∷ 3 ∷ 1 ∷ []) $ use3 W (raw (Pass 𝓤 H A at-mem run .pre (to-pass ds ν δ))) (goes ds ν δ) $
         -- [what `pass` asks; what is kept of d; what the ties own; the locals]
         answers ! (fmOf 𝓤 H (W .laws) 𝓣) (Pass 𝓤 H A at-mem run) known-pass (to-pass ds ν δ)
-        (and-then ! (load ! (from ! (stop !)) (look ! (local 3 1) refl))
-        (and-then ! (load ! (from ! (stop !)) (look ! (local 3 2) refl)) (and-then ! (load ! (from ! (stop !)) (look ! (local 3 9) refl)) (no-more !))))
-        bool of-bool (‵ (flft κ q) ⊛ ‵ (flft (ν ∷ []) fullShare) ⊛ ‵ ftrue) (lasts pass.ended (κ, (ν ∷ [], tt)) (args ds δ)) Said (λ w. id⊢ 𝓤 _) (λ r zs is-r e.
+        (hands ! (local 3 1) refl (hands ! (local 3 2) refl (hands ! (local 3 9) refl (no-more !)))) bool of-bool
+        (‵ (flft κ q) ⊛ ‵ (flft (ν ∷ []) fullShare) ⊛ ‵ ftrue) (lasts pass.ended (κ, (ν ∷ [], tt)) (args ds δ)) Said (λ w. id⊢ 𝓤 _) (λ r zs is-r e.
         -- [the tokens of the ties and of the call, and true; what is said of what was lent; what is kept of d; what the ties own; the locals]
-        land ! (from ! (stop !)) (store ! (local 4 6) refl (tt, tt)) $
+        lands-in ! (store ! (local 4 6) refl (tt, tt)) $
         -- the lifetime is ended, and d comes back at the last list
         move ! (1 ∷ []) $ past ! $ past ! $ as-long ! (λ l. move ! (2 ∷ []) $ split ! $ move ! (1 ∷ []) $ split ! $ move ! (0 ∷ 5 ∷ 3 ∷ []) $
         takes-back ! tt i64 κ′ q′ γ′ b′ o′ (named 1) (named 1) ds (last zs) δ room l $
@@ -252,13 +243,12 @@ module _ {M : Type 1} (𝓤 : URA M) (H : Heap 𝓤) (A : Atoms 𝓤) (W : Given
         -- left = left_after(on, left), which ends the turn
         nothing ! $ use1 W (raw (LeftAfter 𝓤 H A at-mem run .pre (to-left r t))) (goes-left r t t-fits) $
         answers-last ! (fmOf 𝓤 H (W .laws) 𝓣) (LeftAfter 𝓤 H A at-mem run) known-left (to-left r t)
-        (and-then ! (load ! (from ! (stop !)) (look ! (local 7 6) refl)) (and-then ! (load ! (from ! (stop !)) (look ! (local 7 5) refl)) (no-more !)))
-        usize (of-uint w64) (‵ ftrue) (lasts left-after.ended tt (numbers r t)) (λ j ls. j ≡ leftAfter r t) (λ w. id⊢ 𝓤 _) (λ j ls is-j e′.
+        (hands ! (local 7 6) refl (hands ! (local 7 5) refl (no-more !))) usize (of-uint w64) (‵ ftrue) (lasts left-after.ended tt (numbers r t))
+        (λ j ls. j ≡ leftAfter r t) (λ w. id⊢ 𝓤 _) (λ j ls is-j e′.
         -- [true; what is said of what was lent; what d owns; its token; true; the ties' token; true; what the ties own; the locals]
-        land-last ! (from ! (stop !)) (store ! (local 8 5) refl (tt, record { fits = is-j .1 })) $
-        rewrite ! (local 8 5) (λ (i : ℕ). ‵ (fat fullShare word l₅ 0 (vint w64 i))) e′ refl $
-        forget ! (local 8 7) refl $ forget ! (local 8 8) refl $ forget ! (local 8 9) refl $
-        keep ! (5 ∷ 2 ∷ 3 ∷ 7 ∷ from-to 8 20) $ by ! (k (last zs) r l e)))))
+        lands-last ! (store ! (local 8 5) refl (tt, record { fits = is-j .1 })) $
+        rewrite ! (local 8 5) (λ (i : ℕ). ‵ (fat fullShare word l₅ 0 (vint w64 i))) e′ refl $ forget ! (local 8 7) refl $ forget ! (local 8 8) refl $
+        forget ! (local 8 9) refl $ keep ! (5 ∷ 2 ∷ 3 ∷ 7 ∷ from-to 8 20) $ by ! (k (last zs) r l e)))))
       where
         room : Room i64 (length ds)
         room = subst (Room i64) (sym len) rd
@@ -279,14 +269,13 @@ module _ {M : Type 1} (𝓤 : URA M) (H : Heap 𝓤) (A : Atoms 𝓤) (W : Given
     ends ds c X len e =
         qed W (At 0 ds c) ∵ exec ! C Λ En mir.turn-1 (anyQ (afterTurn 𝓤 H X Left)) $
         -- _7 = 0 < left; the loop is left
-        assigns ! (bin ! (lit ! tt) (load ! (from ! (stop !)) (look ! (local 4 5) refl)) tt) (from ! (stop !)) (init ! (local 4 7) refl (tt, tt)) $
+        puts ! (bin ! (lit ! tt) (held ! (local 4 5) refl) tt) (init ! (local 4 7) refl (tt, tt)) $
         rewrite ! (local 4 7) (λ (u : Bool). ‵ (fat fullShare tyBool l₇ 0 (vbool u))) (le-ltb 0 0 (le-refl 0)) refl $
-        leaves-loop ! (load ! (from ! (stop !)) (look ! (local 4 7) refl)) $ exec ! C Λ En mir.t-4 (atRet En Post) $
+        leaves-loop ! (held ! (local 4 7) refl) $ exec ! C Λ En mir.t-4 (atRet En Post) $
         -- _0 = on; the locals are freed
-        assigns ! (of-opd ! (load ! (from ! (stop !)) (look ! (local 4 6) refl))) (from ! (stop !)) (init ! (local 4 0) refl (tt, tt)) $
-        returns ! (look ! (local 4 0) refl) $
-        frees-all ! 4 (holds _ ∷ holds _ ∷ holds _ ∷ holds _ ∷ holds _ ∷ holds _ ∷ holds _ ∷ holds _ ∷ []) refl $
-        keep ! (0 ∷ 2 ∷ 1 ∷ 3 ∷ []) $ by ! (exits ds c len e)
+        puts ! (of-opd ! (held ! (local 4 6) refl)) (init ! (local 4 0) refl (tt, tt)) $ returns ! (look ! (local 4 0) refl) $
+        frees-all ! 4 (holds _ ∷ holds _ ∷ holds _ ∷ holds _ ∷ holds _ ∷ holds _ ∷ holds _ ∷ holds _ ∷ []) refl $ keep ! (0 ∷ 2 ∷ 1 ∷ 3 ∷ []) $
+        by ! (exits ds c len e)
 
     -- a turn leaves the loop, or comes to a state with fewer passes left
     turn-at : (t : ℕ) (r : State) (X : SProp 𝓤) → Settles t r → ((u : ℕ) (p : State) → u < t → Settles u p → ent 𝓤 (⋆ 𝓤 H A (At u (p .0) (p .1))) X)
@@ -314,20 +303,17 @@ module _ {M : Type 1} (𝓤 : URA M) (H : Heap 𝓤) (A : Atoms 𝓤) (W : Given
   walk 𝓣 known-pass known-left rt rd =
       qed W ((‵ (flft κ q) ⊛ ‵ (flft κ′ q′) ⊛ ‵ ftrue) ∷ ‵ (owns (ShrSlice (named 0) κ R ∷ u16 ∷ usize ∷ MutSlice (named 1) κ′ i64 ∷ []) a at) ∷ [])
       ∵ enter ! (𝓣 .C) (𝓣 .Λ) code.function (v ∷ vint w16 n ∷ vint w64 m ∷ s (length d₀) ∷ []) _ $
-      alloc1 !
-      (λ l₀. alloc1 !
-      (λ l₁. alloc1 !
-      (λ l₂. alloc1 ! (λ l₃. alloc1 ! (λ l₄. alloc1 ! (λ l₅. alloc1 ! (λ l₆. alloc1 ! (λ l₇. alloc1 ! (λ l₈. alloc1 ! (λ l₉. alloc0 ! $ params1 ! $
+      alloc1 ! (λ l₀. alloc1 ! (λ l₁. alloc1 ! (λ l₂. alloc1 ! (λ l₃. alloc1 !
+      (λ l₄. alloc1 ! (λ l₅. alloc1 ! (λ l₆. alloc1 ! (λ l₇. alloc1 ! (λ l₈. alloc1 ! (λ l₉. alloc0 ! $ params1 ! $
       pass1 ! (init ! (local 0 1) refl (tt, (tt, (record { fits = rt .0 }, tt)))) $ pass1 ! (init ! (local 0 2) refl (tt, record { fits = n-fits })) $
-      pass1 ! (init ! (local 0 3) refl (tt, record { fits = m-fits })) $ pass1 ! (init ! (local 0 4) refl (tt, (tt, (record { fits = rd .0 }, tt)))) $ pass0 ! $
+      pass1 ! (init ! (local 0 3) refl (tt, record { fits = m-fits })) $ pass1 ! (init ! (local 0 4) refl (tt, (tt, (record { fits = rd .0 }, tt)))) $
+      pass0 ! $
       -- left = rounds; on = false
-      assigns ! (of-opd ! (load ! (from ! (stop !)) (look ! (local 0 3) refl))) (from ! (stop !)) (init ! (local 0 5) refl (tt, record { fits = m-fits })) $
-      assigns ! (of-opd ! (false-lit !)) (from ! (stop !)) (init ! (local 0 6) refl (tt, tt)) $
-      move ! (21 ∷ []) $ fsplit ! $ move ! (1 ∷ []) $ fsplit ! $ drop ! $ fsplit ! $
+      puts ! (of-opd ! (held ! (local 0 3) refl)) (init ! (local 0 5) refl (tt, record { fits = m-fits })) $
+      puts ! (of-opd ! (false-lit !)) (init ! (local 0 6) refl (tt, tt)) $ move ! (21 ∷ []) $ fsplit ! $ move ! (1 ∷ []) $ fsplit ! $ drop ! $ fsplit ! $
       drop ! $ fsplit ! $ move ! (23 ∷ []) $ split ! $ move ! (1 ∷ []) $ split ! $
       -- [d's token; true; ties' token; what d owns; true; what ties owns; _9; …; _0; …]
-      keep ! (2 ∷ 3 ∷ 0 ∷ 5 ∷ from-to 6 20) $
-      by ! (loops 𝓣 known-pass known-left rd l₀ l₁ l₂ l₃ l₄ l₅ l₆ l₇ l₈ l₉)))))))))))
+      keep ! (2 ∷ 3 ∷ 0 ∷ 5 ∷ from-to 6 20) $ by ! (loops 𝓣 known-pass known-left rd l₀ l₁ l₂ l₃ l₄ l₅ l₆ l₇ l₈ l₉)))))))))))
 
 module _ {M : Type 1} (𝓤 : URA M) (H : Heap 𝓤) (A : Atoms 𝓤) (W : Given 𝓤 H A) (mem : Memory → SProp 𝓤) (run : Routine → Fun 𝓤) (𝓣 : Tables 𝓤 H)
     (known-pass : Triple 𝓤 (𝓣 .C #offsets·pass) (Pass 𝓤 H A mem run)) (known-left : Triple 𝓤 (𝓣 .C #offsets·left-after) (LeftAfter 𝓤 H A mem run)) where
