@@ -4,6 +4,10 @@
 --   inside h x y a  the pairs of a in the square of side 2 ^ h at row x and column y
 --   quartersTo k h x y a
 --                   the pairs of a in the first k quarters, of side 2 ^ h, of the square at row x and column y
+--   CountedAt place ws ns
+--                   count i is the number of ones before word `place i` of ws
+--   eachWord i, eachBlock i
+--                   word i, or the first word of block i of four
 --   WordsCounted ws ns, BlocksCounted ws ns
 --                   for each word of ws, or for each block of four, the number of ones before it
 --   Counted ws ns   for each word, or if ws has more than mostCounts words for each block of four
@@ -46,11 +50,20 @@ unfoldable pub quartersTo : ℕ → ℕ → ℕ → ℕ → Cells → Cells
 quartersTo zero h x y a = noPairs
 quartersTo (suc k) h x y a = union (quartersTo k h x y a) (inside h (x + k / 2 * 2 ^ h) (y + k % 2 * 2 ^ h) a)
 
+abbrev pub CountedAt : (ℕ → ℕ) → List ℕ → List ℕ → Type 0
+CountedAt place ws ns = (i : ℕ) → place i < length ws → getD ns i 0 ≡ onesBelow (bitAt ws) (place i * 64)
+
+abbrev pub eachWord : ℕ → ℕ
+eachWord i = i
+
+abbrev pub eachBlock : ℕ → ℕ
+eachBlock i = 4 * i
+
 abbrev pub WordsCounted : List ℕ → List ℕ → Type 0
-WordsCounted ws ns = (i : ℕ) → i < length ws → getD ns i 0 ≡ onesBelow (bitAt ws) (i * 64)
+WordsCounted ws ns = CountedAt eachWord ws ns
 
 abbrev pub BlocksCounted : List ℕ → List ℕ → Type 0
-BlocksCounted ws ns = (i : ℕ) → 4 * i < length ws → getD ns i 0 ≡ onesBelow (bitAt ws) (i * 256)
+BlocksCounted ws ns = CountedAt eachBlock ws ns
 
 abbrev pub Counted : List ℕ → List ℕ → Type 0
 Counted ws ns = (length ws ≤ mostCounts → WordsCounted ws ns) × (mostCounts < length ws → BlocksCounted ws ns)

@@ -6,7 +6,7 @@ use borrow.Author.Needs.{needs}
 use Rattle.k2.specs.Bits.{bitAt}
 use Rattle.k2.specs.BitLaws.{bit-lt, ones-le}
 use Rattle.k2.specs.Trees.{childPlace}
-use Rattle.packing.proofs.LoadLaws.{child-count}
+use Rattle.packing.proofs.CountLaws.{child-count}
 use Rattle.packing.proofs.loading.child_by_word.Statement.{statement}
 use Rattle.packing.proofs.loading.child_by_word.Tie as tie
 

@@ -2,6 +2,7 @@
 -- behind the m squares, and the quarter reached, if there is one, is not empty. The measure is the quarters left. It rests on `descend-child`,
 -- `descend-gap` and `descend-all`. Assumes nothing.
 use mathlib.Core.Path.{_≡_, refl, sym, ap, _∙_}
+use mathlib.Core.List.{List}
 use Prim.Native.Nat.{ℕ, _+_, _-_, _*_, _/_, _%_, _^_, _≤_, _<_}
 use native.Mathlib.Nat.{lt-of-lt-of-le}
 use native.Mathlib.Omega.{arith}
@@ -17,11 +18,17 @@ use Rattle.packing.proofs.SquareLaws.{all-set, squares-set}
 use Rattle.packing.proofs.loading.children.Statement.{statement}
 use Rattle.packing.proofs.loading.children.Tie as tie
 
+record Quartered (tree : List ℕ) (h sense : ℕ) (next₀ : List ℕ) (m b x y v : ℕ) (next : List ℕ) (k q : ℕ) : Type 0 where
+  in-four : q ≤ 4
+  not-empty : q < 4 → digit v q ≡ 1
+  few : k ≤ m + q
+  as-long : length next ≡ length next₀
+  fit : FitAll (h - 1) next 0 k
+  read : (t : Cells) → Reads sense tree h b x y t → ReadAll sense tree (h - 1) next₀ 0 m t
+      → ReadAll sense tree (h - 1) next 0 k t × (squaresTo k (h - 1) next 0 t ≡ union (squaresTo m (h - 1) next₀ 0 t) (quartersTo q (h - 1) x y t))
+
 abbrev Inv-loop : tie.InvT-loop
-Inv-loop tree before h sense next₀ m b x y v s k₀ q₀ next k q =
-    (q ≤ 4) × (q < 4 → digit v q ≡ 1) × (k ≤ m + q) × (length next ≡ length next₀) × FitAll (h - 1) next 0 k
-    × ((t : Cells) → Reads sense tree h b x y t → ReadAll sense tree (h - 1) next₀ 0 m t
-    → ReadAll sense tree (h - 1) next 0 k t × (squaresTo k (h - 1) next 0 t ≡ union (squaresTo m (h - 1) next₀ 0 t) (quartersTo q (h - 1) x y t)))
+Inv-loop tree before h sense next₀ m b x y v s k₀ q₀ next k q = Quartered tree h sense next₀ m b x y v next k q
 
 abbrev μ-loop : tie.MeasureT-loop
 μ-loop tree before h sense next₀ m b x y v s k₀ q₀ next k q = 4 - q
@@ -44,19 +51,20 @@ loop-holds c =
     let start = c .before .before .before .before .before .before in
     let a = start .args in
     let f = c .next-one .ensures in
-    let v = c .before .before .square .ensures .1 in (
-      f .1,
-      f .3,
-      omega arith,
-      refl,
-      start .pre .12,
-      λ u n r. (
+    let v = c .before .before .square .ensures .1 in
+    record {
+      in-four = f .1;
+      not-empty = f .3;
+      few = omega arith;
+      as-long = refl;
+      fit = start .pre .12;
+      read = λ u n r. (
         r,
         quarters-none (a .h - 1) (a .at .row) (a .at .column) u (squaresTo (a .m) (a .h - 1) (a .next .now) 0 u)
             ∙ descend-gap (a .sense) (a .tree .now) (a .h) (a .at .bit) (a .at .row) (a .at .column) u (squaresTo (a .m) (a .h - 1) (a .next .now) 0 u)
             (one-le (start .pre .0)) n 0 (c .next-one .result) (f .0) (f .1) (λ j l m. sym (v j (lt-of-lt-of-le m (f .1))) ∙ f .2 j l m),
-      ),
-    )
+      );
+    }
 
 turn-requires : tie.Need-turn-requires Inv-loop μ-loop
 turn-requires c κs = (c .loop-test .taken, c .before .before .before .before .before .before .before .before .pre .7)
@@ -70,7 +78,7 @@ child-requires c κs =
     let l = c .before .before .loop in
     let u = c .turn in
     let o : bitAt (a .tree .now) (a .at .bit + u .result) ≡ 1 =
-    rw (u .ensures .0) (sym (after-square .square .ensures .1 (l .q) (c .before .loop-test .taken)) ∙ l .inv .1 (c .before .loop-test .taken)) in
+    rw (u .ensures .0) (sym (after-square .square .ensures .1 (l .q) (c .before .loop-test .taken)) ∙ l .inv .not-empty (c .before .loop-test .taken)) in
     (bit-within (a .tree .now) (a .at .bit + u .result) (λ z. omega arith), w .8, w .9, w .10)
 
 -- the quarter is in the rows
@@ -135,15 +143,16 @@ loop-again c =
       z .0,
       z .1,
       quarter-even (l .q % 2) (s .result) (a .at .column) (omega arith) (s .ensures .2) (start .pre .6),
-    ) in (
-      f .1,
-      f .3,
-      omega arith,
-      simp length-set (l .inv .3),
-      all-set (Fits (a .h - 1)) (l .next) (l .k) (w .result) g (l .inv .4) F,
-      λ u n r.
-          let R = l .inv .5 u n r in
-          let o : bitAt (a .tree .now) (a .at .bit + turned (a .sense) (l .q)) ≡ 1 = sym (v (l .q) ql) ∙ l .inv .1 ql in
+    ) in
+    record {
+      in-four = f .1;
+      not-empty = f .3;
+      few = omega arith;
+      as-long = length-set (l .next) (l .k) (w .result) ∙ l .inv .as-long;
+      fit = all-set (Fits (a .h - 1)) (l .next) (l .k) (w .result) g (l .inv .fit) F;
+      read = λ u n r.
+          let R = l .inv .read u n r in
+          let o : bitAt (a .tree .now) (a .at .bit + turned (a .sense) (l .q)) ≡ 1 = sym (v (l .q) ql) ∙ l .inv .not-empty ql in
           let D : Reads (a .sense) (a .tree .now) (a .h - 1) (squareBit (w .result)) (squareRow (w .result)) (squareColumn (w .result)) u =
           rw (w .ensures .0, x, y, d .ensures .0, after-child .before .turn .ensures .0)
           (descend-child (a .sense) (a .tree .now) (a .h) (a .at .bit) (a .at .row) (a .at .column) u hp n (l .q) ql o) in
@@ -154,11 +163,11 @@ loop-again c =
                 ∙ rw (x, y, R .1) (quarters-more (l .q) (a .h - 1) (a .at .row) (a .at .column) u S)
                 ∙ descend-gap (a .sense) (a .tree .now) (a .h) (a .at .bit) (a .at .row) (a .at .column) u S hp n (l .q + 1)
                 (c .next-one2 .result) (f .0) (f .1) (λ j p q. sym (v j (lt-of-lt-of-le q (f .1))) ∙ f .2 j p q),
-          ),
-    )
+          );
+    }
 
 same-length : tie.Need-same-length Inv-loop μ-loop
-same-length c = c .before .loop .inv .3
+same-length c = c .before .loop .inv .as-long
 
 returns : tie.Need-returns Inv-loop μ-loop
 returns c =
@@ -167,8 +176,8 @@ returns c =
     let a = start .args in
     let z : l .q ≡ 4 = omega arith in (
       omega arith,
-      l .inv .4,
-      λ u n r. let R = l .inv .5 u n r in (
+      l .inv .fit,
+      λ u n r. let R = l .inv .read u n r in (
         R .0,
         R .1 ∙ rw z (ap (union (squaresTo (a .m) (a .h - 1) (a .next .now) 0 u)) (descend-all (a .h) (a .at .row) (a .at .column) u (one-le (start .pre .0)))),
       ),

@@ -1,7 +1,8 @@
 -- `fill` goes through the blocks row by row. The loops' invariant: the cells of the blocks passed are there; past the last block of a row there are
 -- no cells (`to-row`). The measures are the rows, and the columns, left. Assumes nothing.
 use mathlib.Core.Path.{_≡_, refl, sym, ap, _∙_}
-use Prim.Native.Nat.{_+_, _-_, _*_, _%_, _^_, _≤_}
+use mathlib.Core.List.{List}
+use Prim.Native.Nat.{ℕ, _+_, _-_, _*_, _%_, _^_, _≤_}
 use native.Mathlib.Omega.{arith}
 use borrow.Author.Needs.{needs}
 use lib.ListN.{length}
@@ -17,11 +18,16 @@ use Rattle.packing.proofs.BlockLaws.{to-none, to-row, to-all}
 use Rattle.packing.proofs.making.fill.Statement.{statement}
 use Rattle.packing.proofs.making.fill.Tie as tie
 
+-- in row r of blocks, those before column c are filled
+record RowFilled (rows : List ℕ) (g base : ℕ) (heap₀ : List ℕ) (r : ℕ) (heap : List ℕ) (c : ℕ) : Type 0 where
+  inside : c ≤ 128
+  eights : c % 8 ≡ 0
+  as-long : length heap ≡ length heap₀
+  filled : (a : Cells) → IsSet (2 ^ (g + 3)) a → bitAt rows ≡ flat a → bitAt heap₀ ≡ raised base (cells (g + 3) (blocksTo (r * 128) a))
+      → bitAt heap ≡ raised base (cells (g + 3) (blocksTo (r * 128 + c) a))
+
 abbrev Inv-loop2 : tie.InvT-loop2
-Inv-loop2 rows g base heap₀ side r c₀ heap c =
-    (c ≤ 128) × (c % 8 ≡ 0) × (length heap ≡ length heap₀)
-    × ((a : Cells) → IsSet (2 ^ (g + 3)) a → bitAt rows ≡ flat a → bitAt heap₀ ≡ raised base (cells (g + 3) (blocksTo (r * 128) a))
-    → bitAt heap ≡ raised base (cells (g + 3) (blocksTo (r * 128 + c) a)))
+Inv-loop2 rows g base heap₀ side r c₀ heap c = RowFilled rows g base heap₀ r heap c
 
 abbrev μ-loop2 : tie.MeasureT-loop2
 μ-loop2 rows g base heap₀ side r c₀ heap c = 128 - c
@@ -48,7 +54,12 @@ loop-holds c =
 loop2-holds : tie.Need-loop2-holds Inv-loop2 μ-loop2 Inv-loop μ-loop
 loop2-holds c =
     let l = c .before .loop in
-    (omega arith, refl, refl, λ s is e h. let z : l .r * 128 + 0 ≡ l .r * 128 = omega arith in rw z h)
+    record {
+      inside = omega arith;
+      eights = refl;
+      as-long = refl;
+      filled = λ s is e h. let z : l .r * 128 + 0 ≡ l .r * 128 = omega arith in rw z h;
+    }
 
 fill-eight-requires : tie.Need-fill-eight-requires Inv-loop2 μ-loop2 Inv-loop μ-loop
 fill-eight-requires c κs =
@@ -59,10 +70,10 @@ fill-eight-requires c κs =
       p .0,
       rw e at (at-loop2 .before .loop-test .taken),
       omega (arith, few start),
-      at-loop2 .loop2 .inv .1,
+      at-loop2 .loop2 .inv .eights,
       p .1,
       p .2,
-      omega (arith, at-loop2 .loop2 .inv .2, at-loop2 .before .before .loop .inv .1),
+      omega (arith, at-loop2 .loop2 .inv .as-long, at-loop2 .before .before .loop .inv .1),
     )
 
 loop2-less : tie.Need-loop2-less Inv-loop2 μ-loop2 Inv-loop μ-loop
@@ -74,15 +85,16 @@ loop2-again c =
     let at-loop = at-loop2 .before .before in
     let start = at-loop .before .before .before in
     let l = at-loop2 .loop2 in
-    let f = c .before .before .fill-eight in (
-      omega (arith, few start),
-      omega arith,
-      f .kept .1 .1 .1 .1 .1 .0 ∙ l .inv .2,
-      λ s is e h.
+    let f = c .before .before .fill-eight in
+    record {
+      inside = omega (arith, few start);
+      eights = omega arith;
+      as-long = f .kept .1 .1 .1 .1 .1 .0 ∙ l .inv .as-long;
+      filled = λ s is e h.
           let a = start .args in
           let x : at-loop .loop .r * 128 + l .c + 8 ≡ at-loop .loop .r * 128 + (l .c + 8) = omega arith in
-          rw x at (f .ensures s is e (l .inv .3 s is e h)),
-    )
+          rw x at (f .ensures s is e (l .inv .filled s is e h));
+    }
 
 loop-again : tie.Need-loop-again Inv-loop2 μ-loop2 Inv-loop μ-loop
 loop-again c =
@@ -93,11 +105,11 @@ loop-again c =
     let a = start .args in
     let p = start .pre in (
       omega arith,
-      k .inv .2 ∙ l .inv .1,
+      k .inv .as-long ∙ l .inv .1,
       λ s is e h.
-          k .inv .3 s is e (l .inv .2 s is e h)
+          k .inv .filled s is e (l .inv .2 s is e h)
           ∙ ap (λ (t : Cells). raised (a .base) (cells (a .g + 3) t))
-          (to-row (a .g) (p .0) s is (l .r) (k .c) (rw (side start) at (c .loop2-test .left)) (k .inv .0)),
+          (to-row (a .g) (p .0) s is (l .r) (k .c) (rw (side start) at (c .loop2-test .left)) (k .inv .inside)),
     )
 
 returns : tie.Need-returns Inv-loop2 μ-loop2 Inv-loop μ-loop
