@@ -16,16 +16,16 @@ descend-requires : tie.Need-descend-requires
 descend-requires c κs =
     let h = c .before .before .height .ensures in
     let p = c .before .before .before .before .before .before .before .before .before .pre in (
-      h .1,
-      h .2,
-      p .2,
-      p .1,
-      search needs,
-      c .before .before .before .before .before .count .ensures,
-      omega arith,
-      omega arith,
-      p .3,
-      root-fits (c .before .before .height .result) (pow-mono {j = 10} (h .2)),
+      record {
+        level-least = h .1;
+        level-most = h .2;
+        sense-is = p .sense-is;
+        short = p .short;
+        places = search needs;
+        counts = c .before .before .before .before .before .count .ensures;
+      },
+      record { inside = omega arith; few = omega arith; fit = root-fits (c .before .before .height .result) (pow-mono {j = 10} (h .2)) },
+      p .rows-are,
     )
 
 returns : tie.Need-returns

@@ -39,8 +39,7 @@ children-requires : tie.Need-children-requires Inv-loop μ-loop
 children-requires c κs =
     let w = c .before .before .before .before .before .before .before .before .pre in
     let l = c .before .before .before .loop in
-    let f = w .9 (l .i) (omega arith) in
-    (w .0, w .1, f .0, f .1, f .2, f .3, f .4, w .2, w .3, w .4, w .5, omega arith, l .inv .fit)
+    (w .0, w .1 .fit (l .i) (omega arith), record { room = omega arith; fit = l .inv .fit })
 
 loop-again : tie.Need-loop-again Inv-loop μ-loop
 loop-again c =
