@@ -48,10 +48,11 @@ next-one-requires c κs = (c .before .square .ensures .0, omega arith)
 
 loop-holds : tie.Need-loop-holds Inv-loop μ-loop
 loop-holds c =
-    let start = c .before .before .before .before .before .before in
+    let after-square = c .before .before in
+    let start = after-square .before .before .before .before in
     let a = start .args in
     let f = c .next-one .ensures in
-    let v = c .before .before .square .ensures .1 in
+    let v = after-square .square .ensures .1 in
     record {
       in-four = f .in-four;
       not-empty = f .one-there;
@@ -68,7 +69,9 @@ loop-holds c =
     }
 
 turn-requires : tie.Need-turn-requires Inv-loop μ-loop
-turn-requires c κs = (c .loop-test .taken, c .before .before .before .before .before .before .before .before .pre .0 .sense-is)
+turn-requires c κs =
+    let after-square = c .before .before .before .before in
+    (c .loop-test .taken, after-square .before .before .before .before .pre .0 .sense-is)
 
 child-requires : tie.Need-child-requires Inv-loop μ-loop
 child-requires c κs =
@@ -96,7 +99,8 @@ fits : (c : tie.After-child Inv-loop μ-loop)
     × (start .args .at .column + at-loop .loop .q % 2 * after-half .half .result + after-half .half .result ≤ 1024)
 fits c =
     let at-loop = c .before .before .before in
-    let start = at-loop .before .before .before .before .before .before .before in
+    let after-square = at-loop .before .before .before in
+    let start = after-square .before .before .before .before in
     let l = at-loop .loop in
     let s = at-loop .before .before .half in
     let a = start .args in
@@ -117,13 +121,17 @@ add-square-number-2 c = let f = fits (c) in omega arith
 
 square-number-requires : tie.Need-square-number-requires Inv-loop μ-loop
 square-number-requires c κs =
+    let at-loop = c .before .before .before in
+    let after-square = at-loop .before .before .before in
     let f = fits (c) in
-    let p : 0 < 2 ^ (c .before .before .before .before .before .before .before .before .before .before .args .h - 1) = pow-pos _ in
+    let p : 0 < 2 ^ (after-square .before .before .before .before .args .h - 1) = pow-pos _ in
     let e = c .before .before .before .before .before .half .ensures .0 in
     (c .child .ensures .1, omega (arith, f .0), omega (arith, f .1))
 
 next-one-requires-2 : tie.Need-next-one-requires-2 Inv-loop μ-loop
-next-one-requires-2 c κs = (c .before .before .before .before .before .before .before .square .ensures .0, omega arith)
+next-one-requires-2 c κs =
+    let at-loop = c .before .before .before .before in
+    (at-loop .before .before .before .square .ensures .0, omega arith)
 
 loop-again : tie.Need-loop-again Inv-loop μ-loop
 loop-again c =
@@ -178,7 +186,8 @@ same-length c = c .before .loop .inv .as-long
 
 returns : tie.Need-returns Inv-loop μ-loop
 returns c =
-    let start = c .before .before .before .before .before .before .before .before in
+    let after-square = c .before .before .before .before in
+    let start = after-square .before .before .before .before in
     let l = c .before .loop in
     let a = start .args in
     let z : l .q ≡ 4 = omega arith in (

@@ -27,8 +27,9 @@ loop-holds c = let a = c .before .before .before .args in (omega arith, refl, λ
 
 square-requires : tie.Need-square-requires Inv-loop μ-loop
 square-requires c κs =
-    let start = c .before .before .before .before .before .before in
-    let f = start .pre .0 .fit (c .before .before .loop .i) (omega arith) in (f .bit-of-four, omega arith)
+    let at-loop = c .before .before in
+    let start = at-loop .before .before .before .before in
+    let f = start .pre .0 .fit (at-loop .loop .i) (omega arith) in (f .bit-of-four, omega arith)
 
 put-cells-requires : tie.Need-put-cells-requires Inv-loop μ-loop
 put-cells-requires c κs =

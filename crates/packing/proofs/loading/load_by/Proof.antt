@@ -14,15 +14,16 @@ use Rattle.packing.proofs.loading.load_by.Tie as tie
 
 descend-requires : tie.Need-descend-requires
 descend-requires c κs =
+    let after-count = c .before .before .before .before .before in
     let h = c .before .before .height .ensures in
-    let p = c .before .before .before .before .before .before .before .before .before .pre in (
+    let p = after-count .before .before .before .before .pre in (
       record {
         level-least = h .1;
         level-most = h .2;
         sense-is = p .sense-is;
         short = p .short;
         places = search needs;
-        counts = c .before .before .before .before .before .count .ensures;
+        counts = after-count .count .ensures;
       },
       record { inside = omega arith; few = omega arith; fit = root-fits (c .before .before .height .result) (pow-mono {j = 10} (h .2)) },
       p .rows-are,
@@ -30,8 +31,10 @@ descend-requires c κs =
 
 returns : tie.Need-returns
 returns c =
-    let h = c .before .before .before .before .before .height in
-    let g = c .before .before .before .before .before .before .before .before .before .before .before .before .args in
+    let after-height = c .before .before .before .before .before in
+    let after-before2 = after-height .before .before .before .before in
+    let h = after-height .height in
+    let g = after-before2 .before .before .before .args in
     λ a x is e r.
     let t : Cells = turnedBy (g .sense) a in
     c .before .before .descend .ensures x t r

@@ -21,7 +21,8 @@ or-two-requires-2 c κs =
 
 returns : tie.Need-returns
 returns c =
-    let after-or-two = c .before .before .before .before .before .before in
+    let after-rows = c .before .before .before .before .before in
+    let after-or-two = after-rows .before in
     let start = after-or-two .before .before .before in
     let a = start .args in
     let p = start .pre in

@@ -77,7 +77,9 @@ fill-eight-requires c κs =
     )
 
 loop2-less : tie.Need-loop2-less Inv-loop2 μ-loop2 Inv-loop μ-loop
-loop2-less c = omega (arith, few (c .before .before .before .before .before .before .before .before .before .before))
+loop2-less c =
+    let at-loop2 = c .before .before .before .before .before in
+    omega (arith, few (at-loop2 .before .before .before .before .before))
 
 loop2-again : tie.Need-loop2-again Inv-loop2 μ-loop2 Inv-loop μ-loop
 loop2-again c =

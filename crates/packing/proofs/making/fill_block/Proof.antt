@@ -36,10 +36,14 @@ block-requires : tie.Need-block-requires
 block-requires c κs = (omega (arith, few (c .before .before .before)), omega arith)
 
 mul-or-word : tie.Need-mul-or-word
-mul-or-word c = let z = c .before .morton-place .ensures .1 in omega (arith, small (c .before .before .before .before .before .before .before))
+mul-or-word c =
+    let else1 = c .before .before .before .before in
+    let z = c .before .morton-place .ensures .1 in omega (arith, small (else1 .before .before .before))
 
 add-or-word : tie.Need-add-or-word
-add-or-word c = let z = c .before .morton-place .ensures .1 in omega (arith, small (c .before .before .before .before .before .before .before))
+add-or-word c =
+    let else1 = c .before .before .before .before in
+    let z = c .before .morton-place .ensures .1 in omega (arith, small (else1 .before .before .before))
 
 shuffle-requires : tie.Need-shuffle-requires
 shuffle-requires c κs = tt

@@ -55,8 +55,9 @@ fill-block-requires c κs =
 
 loop-again : tie.Need-loop-again Inv-loop μ-loop
 loop-again c =
-    let a = c .before .before .before .before .before .before .before .before .before .before .args in
-    let l = c .before .before .before .before .before .loop in
+    let at-loop = c .before .before .before .before .before in
+    let a = at-loop .before .before .before .before .before .args in
+    let l = at-loop .loop in
     let f = c .before .before .fill-block in (
       omega arith,
       f .kept .1 .1 .1 .1 .1 .1 .0 ∙ l .inv .1,

@@ -34,7 +34,8 @@ fill-requires c κs =
 lift-requires : tie.Need-lift-requires
 lift-requires c κs =
     let after-fill = c .before .before .before in
-    let after-clear = after-fill .before .before .before .before .before .before in
+    let after-heap = after-fill .before .before .before .before .before in
+    let after-clear = after-heap .before in
     let start = after-clear .before .before .before .before in
     let k : length (after-clear .clear .last .0) ≡ length (start .args .heap .now) = after-clear .clear .kept .0 in
     let l : length (after-fill .fill .last .1 .1 .1 .0) ≡ length (after-clear .clear .last .0) = after-fill .fill .kept .1 .1 .1 .0 in
@@ -44,7 +45,8 @@ compact-requires : tie.Need-compact-requires
 compact-requires c κs =
     let after-lift = c .before .before .before in
     let after-fill = after-lift .before .before .before .before in
-    let after-clear = after-fill .before .before .before .before .before .before in
+    let after-heap = after-fill .before .before .before .before .before in
+    let after-clear = after-heap .before in
     let start = after-clear .before .before .before .before in
     let k : length (after-clear .clear .last .0) ≡ length (start .args .heap .now) = after-clear .clear .kept .0 in
     let l : length (after-fill .fill .last .1 .1 .1 .0) ≡ length (after-clear .clear .last .0) = after-fill .fill .kept .1 .1 .1 .0 in
@@ -53,7 +55,8 @@ compact-requires c κs =
 
 returns : tie.Need-returns
 returns c =
-    let after-lift = c .before .before .before .before .before .before in
+    let after-heap3 = c .before .before .before .before .before in
+    let after-lift = after-heap3 .before in
     let after-fill = after-lift .before .before .before .before in
     let after-block-levels = after-fill .before .before .before in
     let after-clear = after-block-levels .before .before .before in
