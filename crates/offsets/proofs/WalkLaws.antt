@@ -8,10 +8,10 @@
 --                   a local gets a value, or what a call answers
 --   Held, cells     a local's memory at the end, with a value or without one; all locals with that they die, the last one first
 --   frees-all       all locals are freed
---   Told, of-uint, of-bool
---                   a type whose machine value is told by what it stands for: numbers of a width, and truth values
 --   past, as-long   of what a callee says of what it was lent, the first part is let go; the list that comes back is as long as it was
 --   number, truth   a number or a truth value is put before what is had for the parameters after it
+--   Told, of-uint, of-bool
+--                   a type whose machine value is told by what it stands for: numbers of a width, and truth values
 --   answers, answers-last
 --                   a call, and what it answers: the value is told, and what the contract says of it and of what was lent is known
 --   walks-loop      a loop: `Holds t s` says that the state s is met with at most t turns to come, and `At t s` is what is had there. A turn from such a

@@ -1,10 +1,10 @@
 -- The ones counted before each word of a tree, or before each block of four, and the child place found by them. Count k is that of word `place k`.
 --   Counting place tree before₀ before n i
 --                   the invariant of both loops: i words are passed, n is the number of their ones, and each count of a word passed is there
---   counting-none   at the start
+--   counting-none, counting-all
+--                   at the start, at the end
 --   counting-put, counting-past
 --                   one word more: its count is written, or it has none
---   counting-all    at the end
 --   child-count     the ones up to a place, from those before its word
 -- Assumes nothing.
 use mathlib.Core.Path.{_≡_, refl, sym, ap, ap₂, _∙_}

@@ -37,15 +37,17 @@ loop-holds c = record {
 
 children-requires : tie.Need-children-requires Inv-loop μ-loop
 children-requires c κs =
-    let w = c .before .before .before .before .before .before .before .before .pre in
-    let l = c .before .before .before .loop in
-    let f = w .9 (l .i) (omega arith) in
-    (w .0, w .1, f .0, f .1, f .2, f .3, f .4, w .2, w .3, w .4, w .5, omega arith, l .inv .fit)
+    let at-loop = c .before .before .before in
+    let w = at-loop .before .before .before .before .before .pre in
+    let l = at-loop .loop in
+    (w .0, w .1 .fit (l .i) (omega arith), record { room = omega arith; fit = l .inv .fit })
 
 loop-again : tie.Need-loop-again Inv-loop μ-loop
 loop-again c =
-    let l = c .before .before .before .before .before .before .loop in
-    let a = c .before .before .before .before .before .before .before .before .before .before .before .args in
+    let in-loop = c .before .before .before .before .before in
+    let after-shared-slice-known = in-loop .before .before .before .before .before in
+    let l = in-loop .before .loop in
+    let a = after-shared-slice-known .before .args in
     let p = c .before .before .children in
     let w : ℕ = getD (a .list .now) (a .part .from + l .i) 0 in
     record {
@@ -67,8 +69,9 @@ same-length c = c .before .loop .inv .as-long
 
 returns : tie.Need-returns Inv-loop μ-loop
 returns c =
+    let after-shared-slice-known = c .before .before .before .before .before in
     let l = c .before .loop in
-    let z : l .i ≡ c .before .before .before .before .before .before .args .part .count = omega arith in
+    let z : l .i ≡ after-shared-slice-known .before .args .part .count = omega arith in
     (omega arith, l .inv .fit, λ u n. let R = l .inv .read u n in (R .0, R .1 ∙ rw z refl))
 
 pub spread-spec : {M : Type 1} → statement M

@@ -49,11 +49,14 @@ compact-word-requires : tie.Need-compact-word-requires Inv-loop μ-loop
 compact-word-requires c κs = (omega arith, omega arith)
 
 loop-less-2 : tie.Need-loop-less-2 Inv-loop μ-loop
-loop-less-2 c = omega (arith, c .before .before .before .before .before .before .before .before .loop .inv .as-long)
+loop-less-2 c =
+    let after-all-zero = c .before .before .before .before .before in
+    omega (arith, after-all-zero .before .before .before .loop .inv .as-long)
 
 loop-again-2 : tie.Need-loop-again-2 Inv-loop μ-loop
 loop-again-2 c =
-    let at-loop = c .before .before .before .before .before .before .before .before in
+    let after-all-zero = c .before .before .before .before .before in
+    let at-loop = after-all-zero .before .before .before in
     let l = at-loop .loop in
     let s = c .before .before .compact-word in
     record {
@@ -71,8 +74,9 @@ add-result c = omega (arith, c .before .before .before .before .before .loop .in
 
 returns : tie.Need-returns Inv-loop μ-loop
 returns c =
-    let l = c .before .before .before .before .before .loop in
-    let h = c .before .before .before .before .before .before .before .args .heap .now in
+    let at-loop = c .before .before .before .before .before in
+    let l = at-loop .loop in
+    let h = at-loop .before .before .args .heap .now in
     let t = c .before .before .trim in
     let e : l .i ≡ length h = omega (arith, l .inv .as-long) in (
       omega arith,

@@ -44,7 +44,7 @@ side : (c : tie.Start Inv-loop2 μ-loop2 Inv-loop μ-loop) → (1 * 2 ^ (c .args
 side c = one-shl (c .args .g) (omega arith)
 
 few : (c : tie.Start Inv-loop2 μ-loop2 Inv-loop μ-loop) → (1 * 2 ^ (c .args .g)) % 2 ^ 64 ≤ 128
-few c = rw (side c) (pow-mono {j = 7} (c .pre .0))
+few c = rw (side c) (pow-mono {j = 7} (c .pre .levels))
 
 loop-holds : tie.Need-loop-holds Inv-loop2 μ-loop2 Inv-loop μ-loop
 loop-holds c =
@@ -67,17 +67,19 @@ fill-eight-requires c κs =
     let start = at-loop2 .before .before .before .before .before in
     let p = start .pre in
     let e = side start in (
-      p .0,
-      rw e at (at-loop2 .before .loop-test .taken),
-      omega (arith, few start),
-      at-loop2 .loop2 .inv .eights,
-      p .1,
-      p .2,
-      omega (arith, at-loop2 .loop2 .inv .as-long, at-loop2 .before .before .loop .inv .1),
+      record {
+        levels = p .levels;
+        rows-are = p .rows-are;
+        base-most = p .base-most;
+        room = omega (arith, at-loop2 .loop2 .inv .as-long, at-loop2 .before .before .loop .inv .1);
+      },
+      record { row = rw e at (at-loop2 .before .loop-test .taken); column = omega (arith, few start); eights = at-loop2 .loop2 .inv .eights },
     )
 
 loop2-less : tie.Need-loop2-less Inv-loop2 μ-loop2 Inv-loop μ-loop
-loop2-less c = omega (arith, few (c .before .before .before .before .before .before .before .before .before .before))
+loop2-less c =
+    let at-loop2 = c .before .before .before .before .before in
+    omega (arith, few (at-loop2 .before .before .before .before .before))
 
 loop2-again : tie.Need-loop2-again Inv-loop2 μ-loop2 Inv-loop μ-loop
 loop2-again c =
@@ -109,7 +111,7 @@ loop-again c =
       λ s is e h.
           k .inv .filled s is e (l .inv .2 s is e h)
           ∙ ap (λ (t : Cells). raised (a .base) (cells (a .g + 3) t))
-          (to-row (a .g) (p .0) s is (l .r) (k .c) (rw (side start) at (c .loop2-test .left)) (k .inv .inside)),
+          (to-row (a .g) (p .levels) s is (l .r) (k .c) (rw (side start) at (c .loop2-test .left)) (k .inv .inside)),
     )
 
 returns : tie.Need-returns Inv-loop2 μ-loop2 Inv-loop μ-loop
@@ -118,7 +120,7 @@ returns c =
     let l = c .before .loop in
     let a = start .args in
     let x : l .r ≡ 2 ^ a .g = omega (arith, side start) in
-    λ s is e h. l .inv .2 s is e h ∙ rw x (ap (λ (t : Cells). raised (a .base) (cells (a .g + 3) t)) (to-all (a .g) (start .pre .0) s is))
+    λ s is e h. l .inv .2 s is e h ∙ rw x (ap (λ (t : Cells). raised (a .base) (cells (a .g + 3) t)) (to-all (a .g) (start .pre .levels) s is))
 
 pub fill-spec : {M : Type 1} → statement M
 fill-spec =

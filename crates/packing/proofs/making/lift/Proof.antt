@@ -53,7 +53,8 @@ lift-word-requires c κs = (omega arith, omega (arith, c .before .before .before
 
 loop-again-2 : tie.Need-loop-again-2 Inv-loop μ-loop
 loop-again-2 c =
-    let l = c .before .before .before .before .before .before .loop in
+    let in-loop = c .before .before .before .before .before in
+    let l = in-loop .before .loop in
     let w = c .before .before .lift-word in
     record {
       one-left = omega arith;

@@ -9,8 +9,8 @@ use Rattle.session.specs.Program.{asks, pairs, nextSession, printed, lis
 use Rattle.session.specs.Listing.{listing-left}
 use Rattle.session.specs.TurnLaws.{closed-turns, pairs-turns}
 use borrow.Author.Needs.{needs}
-use Rattle.session.proofs.ask_pairs.Statement.{statement}
-use Rattle.session.proofs.ask_pairs.Tie as tie
+use Rattle.session.proofs.turns.ask_pairs.Statement.{statement}
+use Rattle.session.proofs.turns.ask_pairs.Tie as tie
 
 returns : tie.Need-returns
 unfolding nextSession printed listLeft number

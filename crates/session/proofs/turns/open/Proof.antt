@@ -6,8 +6,8 @@ use denote.Ref.{now}
 use Rattle.book.specs.Causes.{number}
 use Rattle.session.specs.TurnLaws.{open-none, open-many, open-fine, fresh-fine, kept-turns, fresh-turns}
 use borrow.Author.Needs.{needs}
-use Rattle.session.proofs.open.Statement.{statement}
-use Rattle.session.proofs.open.Tie as tie
+use Rattle.session.proofs.turns.open.Statement.{statement}
+use Rattle.session.proofs.turns.open.Tie as tie
 
 returns : tie.Need-returns
 unfolding number

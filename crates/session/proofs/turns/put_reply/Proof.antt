@@ -9,8 +9,8 @@ use Rattle.report.specs.Report.{outcomeText}
 use Rattle.answers.specs.Answers.{counted}
 use Rattle.chains.specs.Replies.{outcomeOf, chainCounted}
 use borrow.Author.Needs.{needs}
-use Rattle.session.proofs.put_reply.Statement.{statement}
-use Rattle.session.proofs.put_reply.Tie as tie
+use Rattle.session.proofs.turns.put_reply.Statement.{statement}
+use Rattle.session.proofs.turns.put_reply.Tie as tie
 
 -- the steps are within the list
 fits : (c : tie.After-answer) → c .answer .given .0 .0 ≤ length (now (c .before .before .before .before .args .list))

@@ -7,8 +7,8 @@ use Rattle.book.specs.Causes.{number}
 use Rattle.session.specs.Program.{asks, totalling, nextSession, printed, listLeft}
 use Rattle.session.specs.TurnLaws.{closed-turns, total-turns}
 use borrow.Author.Needs.{needs}
-use Rattle.session.proofs.ask_total.Statement.{statement}
-use Rattle.session.proofs.ask_total.Tie as tie
+use Rattle.session.proofs.turns.ask_total.Statement.{statement}
+use Rattle.session.proofs.turns.ask_total.Tie as tie
 
 returns : tie.Need-returns
 unfolding nextSession printed listLeft number

@@ -9,8 +9,8 @@ use Rattle.answers.specs.WrittenLaws.{wrote-as}
 use Rattle.session.specs.Program.{asks, call, nextSession, printed, listLeft}
 use Rattle.session.specs.TurnLaws.{closed-turns, call-turns}
 use borrow.Author.Needs.{needs}
-use Rattle.session.proofs.edit.Statement.{statement}
-use Rattle.session.proofs.edit.Tie as tie
+use Rattle.session.proofs.turns.edit.Statement.{statement}
+use Rattle.session.proofs.turns.edit.Tie as tie
 
 returns : tie.Need-returns
 unfolding nextSession printed listLeft number

@@ -7,8 +7,8 @@ use Rattle.report.specs.Report.{pairsText, outcomeText}
 use Rattle.answers.specs.WrittenLaws.{wrote-as}
 use Rattle.session.specs.Listing.{listing}
 use borrow.Author.Needs.{needs}
-use Rattle.session.proofs.put_listing.Statement.{statement}
-use Rattle.session.proofs.put_listing.Tie as tie
+use Rattle.session.proofs.turns.put_listing.Statement.{statement}
+use Rattle.session.proofs.turns.put_listing.Tie as tie
 
 slice-aggregate-put-pairs : tie.Need-slice-aggregate-put-pairs
 slice-aggregate-put-pairs c = sym (length-take-le _ _ (c .before .pairs-shown .ensures .0))

@@ -9,8 +9,8 @@ use Rattle.session.specs.Program.{asks, chain, nextSession, printed, lis
 use Rattle.session.specs.Listing.{reply-left}
 use Rattle.session.specs.TurnLaws.{closed-turns, chain-turns}
 use borrow.Author.Needs.{needs}
-use Rattle.session.proofs.ask_chain.Statement.{statement}
-use Rattle.session.proofs.ask_chain.Tie as tie
+use Rattle.session.proofs.turns.ask_chain.Statement.{statement}
+use Rattle.session.proofs.turns.ask_chain.Tie as tie
 
 returns : tie.Need-returns
 unfolding nextSession printed listLeft number
