@@ -1,10 +1,10 @@
 -- Laws of the index of the arcs as it is made: the records by which it is made, and one arc more. Assumes nothing.
 use mathlib.Core.Path.{_≡_, refl, sym, ap, _∙_, subst, fun-ext}
 use mathlib.Core.List.{List}
-use Prim.Native.Nat.{ℕ, _+_, _-_, _/_, _%_, _≤_, _<_}
+use Prim.Native.Nat.{ℕ, _+_, _-_, _/_, _%_, _<_}
 use native.Mathlib.Omega.{arith}
 use native.Mathlib.Decide.{ℕ-discrete}
-use lib.ListN.{length, getD, set, replicate, length-set, getD-replicate}
+use lib.ListN.{length, getD, set, length-set}
 use lib.Seq.{getD-set-same, getD-set-other}
 use Rattle.automaton.specs.LevelLaws.{Which, less, same, more, which}
 use Rattle.arcs.specs.Arcs.{arcFrom, arcTo}
@@ -24,16 +24,16 @@ unfolding keyAt arcFrom
 key-from cs = fun-ext (λ j. (let z : getD cs j 0 / 1024 % 1024 ≡ getD cs j 0 / 1024 % 1024 = refl in z))
 
 -- ---- the index of no arc, and one arc more
-pub indexed-none : (key : ℕ → ℕ) (n : ℕ) → 1024 ≤ n → Indexed key 0 (replicate n 0)
+pub indexed-none : (key : ℕ → ℕ) (ix : List ℕ) → ((r : ℕ) → getD ix r 0 ≡ 0) → Indexed key 0 ix
 unfolding firstArc
-indexed-none key n l = record {
-  first-at = λ r h. (let z = getD-replicate {A = ℕ} n r 0 0 (omega arith) in (omega arith, λ o. absurd (omega arith)));
+indexed-none key ix zeros = record {
+  first-at = λ r h. (let z = zeros r in (omega arith, λ o. absurd (omega arith)));
   first-all = λ j h. absurd (omega arith);
   next-at = λ j h. absurd (omega arith);
   next-all = λ i j l h. absurd (omega arith);
 }
 
-module _ {key : ℕ → ℕ} {k : ℕ} {ix : List ℕ} (I : Indexed key k ix) (small : (j : ℕ) → key j < 1024) (hk : k < 8192) (long : length ix ≡ 9216) where
+module _ {key : ℕ → ℕ} {k : ℕ} {ix : List ℕ} (I : Indexed key k ix) (small : (j : ℕ) → key j < 1024) (long : 1024 + k < length ix) where
   -- the record's first arc is now after arc k, and arc k is its first
   abbrev ix₁ : List ℕ
   ix₁ = set ix (1024 + k) (getD ix (key k) 0)

@@ -1,10 +1,10 @@
 // The crossings of a sheet's links as arcs, and an index that leads from a record to its arcs.
 ghost use mathlib.Core.Path.{_≡_};
-ghost use Prim.Native.Nat.{_*_, _<_, _≤_};
-ghost use lib.ListN.{length};
+ghost use Prim.Native.Nat.{ℕ, _+_, _*_, _<_, _≤_};
+ghost use lib.ListN.{length, getD};
 ghost use Rattle.book.specs.Causes.{maxRecords, maxLinks};
 ghost use Rattle.arcs.specs.Arcs.{maxArcs, arcOf, arcFrom, arcTo, Crossings, NoUse, PutIf};
-ghost use Rattle.arcs.specs.Index.{indexWords, keyAt, firstArc, nextArc, Indexed};
+ghost use Rattle.arcs.specs.Index.{keyAt, firstArc, nextArc, Indexed};
 
 // An arc's word is its letter, the record left and the record reached, each times its unit; a link's word has its label in the letter's place. A set of labels
 // has room for so many.
@@ -19,6 +19,11 @@ pub const MAX_ARCS: usize = 2 * book::MAX_LINKS;
 
 // An index has a word for each record, then one for each arc.
 pub const INDEX_WORDS: usize = book::MAX_RECORDS + MAX_ARCS;
+
+// Few arcs, for which words and an index are cleared in a moment.
+pub const FEW_ARCS: usize = 1024;
+
+pub const FEW_INDEX_WORDS: usize = book::MAX_RECORDS + FEW_ARCS;
 
 // The word of a link crossed, forward or against its sense.
 fn arc(link: u32, sense: u32) -> u32
@@ -87,13 +92,13 @@ const REACHED: u32 = 0;
 
 const LEFT: u32 = 10;
 
-// The arcs by the record whose bits begin at `key`: at r the last arc of the record r, at 1,024 + j the one before arc j of the same record, each
-// time its number and 1, or 0 for none.
-fn index_of(arcs: &[u32], key: u32) -> [u16; INDEX_WORDS]
-    requires { ⌜ (length (now arcs) ≤ maxArcs) × (key ≤ 10) ⌝ }
-    ensures { λ r. ⌜ Indexed (keyAt (now (arcs .entry)) key) (length (now (arcs .entry))) r ⌝ }
+// The arcs by the record whose bits begin at `key`, into an index of zeros: at r the last arc of the record r, at 1,024 + j the one before arc j of the
+// same record, each time its number and 1, or 0 for none.
+fn index_of(arcs: &[u32], key: u32, index: &mut [u16])
+    requires { ⌜ (length (now arcs) ≤ maxArcs) × (key ≤ 10) × (maxRecords + length (now arcs) ≤ length (now index))
+        × ((r : ℕ) → getD (now index) r 0 ≡ 0) ⌝ }
+    ensures { λ _. ⌜ Indexed (keyAt (now (arcs .entry)) key) (length (now (arcs .entry))) (now (index .exit)) ⌝ }
 {
-    let mut index = [0u16; INDEX_WORDS];
     let mut j = 0;
     while j < arcs.len() {
         let record = ((arcs[j] >> key) % RECORD_UNIT) as usize;
@@ -101,28 +106,27 @@ fn index_of(arcs: &[u32], key: u32) -> [u16; INDEX_WORDS]
         index[record] = (j + 1) as u16;
         j += 1;
     }
-    index
 }
 
 // The arcs by the record reached.
-pub fn index_by_reached(arcs: &[u32]) -> [u16; INDEX_WORDS]
-    requires { ⌜ length (now arcs) ≤ maxArcs ⌝ }
-    ensures { λ r. ⌜ Indexed (arcTo (now (arcs .entry))) (length (now (arcs .entry))) r ⌝ }
+pub fn index_by_reached(arcs: &[u32], index: &mut [u16])
+    requires { ⌜ (length (now arcs) ≤ maxArcs) × (maxRecords + length (now arcs) ≤ length (now index)) × ((r : ℕ) → getD (now index) r 0 ≡ 0) ⌝ }
+    ensures { λ _. ⌜ Indexed (arcTo (now (arcs .entry))) (length (now (arcs .entry))) (now (index .exit)) ⌝ }
 {
-    index_of(arcs, REACHED)
+    index_of(arcs, REACHED, index);
 }
 
 // The arcs by the record left.
-pub fn index_by_left(arcs: &[u32]) -> [u16; INDEX_WORDS]
-    requires { ⌜ length (now arcs) ≤ maxArcs ⌝ }
-    ensures { λ r. ⌜ Indexed (arcFrom (now (arcs .entry))) (length (now (arcs .entry))) r ⌝ }
+pub fn index_by_left(arcs: &[u32], index: &mut [u16])
+    requires { ⌜ (length (now arcs) ≤ maxArcs) × (maxRecords + length (now arcs) ≤ length (now index)) × ((r : ℕ) → getD (now index) r 0 ≡ 0) ⌝ }
+    ensures { λ _. ⌜ Indexed (arcFrom (now (arcs .entry))) (length (now (arcs .entry))) (now (index .exit)) ⌝ }
 {
-    index_of(arcs, LEFT)
+    index_of(arcs, LEFT, index);
 }
 
 // The first arc of the record r: its number and 1, or 0 for none.
 pub fn first_arc(index: &[u16], r: usize) -> usize
-    requires { ⌜ (length (now index) ≡ indexWords) × (r < maxRecords) ⌝ }
+    requires { ⌜ r < length (now index) ⌝ }
     ensures { λ p. ⌜ p ≡ firstArc (now (index .entry)) r ⌝ }
 {
     index[r] as usize
@@ -130,7 +134,7 @@ pub fn first_arc(index: &[u16], r: usize) -> usize
 
 // The arc after arc j of the same record: its number and 1, or 0 for none.
 pub fn next_arc(index: &[u16], j: usize) -> usize
-    requires { ⌜ (length (now index) ≡ indexWords) × (j < maxArcs) ⌝ }
+    requires { ⌜ (maxRecords + j < length (now index)) × (j < maxArcs) ⌝ }
     ensures { λ p. ⌜ p ≡ nextArc (now (index .entry)) j ⌝ }
 {
     index[book::MAX_RECORDS + j] as usize

@@ -30,20 +30,19 @@ fn sought(
     marks: &[u32],
     links: &[u32],
     numbers: &[u64],
-    ends: Ends,
+    from: usize,
+    to: usize,
     work: &mut [u64],
     list: &mut [u32],
 ) -> Found
-    requires { ⌜ (length (now marks) ≤ maxRecords) × (length (now links) ≤ maxLinks) × (ends .n ≡ length (now marks)) × (ends .from < ends .n)
-        × (ends .to < ends .n) × (ends .n * 64 ≤ length (now work))
+    requires { ⌜ (length (now marks) ≤ maxRecords) × (length (now links) ≤ maxLinks) × (from < length (now marks)) × (to < length (now marks))
+        × (length (now marks) * 64 ≤ length (now work))
         × ((text : List ℕ) × (e : Expr) × InLimits text e × (now numbers ≡ code e)) ⌝ }
     ensures { λ r. ⌜ Untouched (now (list .entry)) (now (list .exit)) r
         × ((text : List ℕ) (e : Expr) → InLimits text e → now (numbers .entry) ≡ code e → (self : Register) (b : Book) → Represents self b
         → ReadOf self (now (marks .entry)) (now (links .entry))
-        → Answered (asked b) e (ends .from) (ends .to) (now (list .entry)) (now (list .exit)) r) ⌝ }
+        → Answered (asked b) e from to (now (list .entry)) (now (list .exit)) r) ⌝ }
 {
-    let from = ends.from;
-    let to = ends.to;
     if marks[from] == register::WITHDRAWN_MARK {
         return Found::Nowhere;
     }
@@ -54,17 +53,13 @@ fn sought(
     let follow = tables.follow;
     let predecessors = tables.pred;
     let enter = tables.enter;
-    let accepting = tables.accepting;
-    search::first_chain(
-        links,
-        &follow,
-        &predecessors,
-        &enter,
-        accepting,
-        ends,
-        work,
-        list,
-    )
+    let ends = Ends {
+        n: marks.len(),
+        from,
+        to,
+        accepting: tables.accepting,
+    };
+    search::first_chain(links, &follow, &predecessors, &enter, ends, work, list)
 }
 
 // The first of the shortest chains from one record to another that spell a word of the expression, over the marks and links that are lent of a register.
@@ -99,8 +94,7 @@ pub fn chain_over(
             if work.len() < n * 64 {
                 return ChainAnswer::Refused(book::SHORT_WORK);
             }
-            let ends = Ends { n, from: x, to: y };
-            let found = sought(marks, links, &code[0..k], ends, work, list);
+            let found = sought(marks, links, &code[0..k], x, y, work, list);
             match found {
                 Found::Steps(steps) => ChainAnswer::Chain(steps),
                 Found::Nowhere => ChainAnswer::NoChain,

@@ -59,7 +59,8 @@ pub fn visit_all(links: &[u32], n: usize, depths: &mut [u32]) -> bool
     ensures { λ r. ⌜ (r ≡ true → Right (now (links .entry)) (now (depths .exit)) × ((y : ℕ) → y < n → entered < getD (now (depths .exit)) y 0))
         × (r ≡ false → (z : ℕ) × Leads (now (links .entry)) z z) ⌝ }
 {
-    let index = arcs::index_by_reached(links);
+    let mut index = [0u16; arcs::INDEX_WORDS];
+    arcs::index_by_reached(links, &mut index);
     let mut y = 0;
     while y < n {
         if visit(links, &index, y, depths) == ENTERED {

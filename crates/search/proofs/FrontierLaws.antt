@@ -25,7 +25,7 @@ use Rattle.automaton.specs.Automata.{On}
 use Rattle.automaton.specs.LevelLaws.{Which, less, same, more, which}
 use Rattle.search.specs.Frontiers.{Added, hasState, Listed, Frontier, Zero}
 use Rattle.automaton.specs.LowestLaws.{some-on, Digit, is-on, is-off, digit-of}
-use Rattle.search.proofs.LevelLaws.{ones-less, mask-here, mask-off}
+use Rattle.search.proofs.LevelLaws.{ones-less}
 
 -- ---- states added
 pub added-zero : (nx : List ℕ) (n r v : ℕ) → v ≡ 0 → Added nx n r v nx
@@ -178,14 +178,15 @@ none-listed {nx = nx} I h r = go (digit-of (getD nx r 0))
     go (is-on o) = absurd (let z = I .all r o in let y = z .1 in omega arith)
 
 -- ---- the level of one record
-pub frontier-start : (k y v : ℕ) → y < k → y < 1024 → Frontier (replicate k y) (replicate k v) 1 (set (replicate k 0) y v)
-frontier-start k y v h g =
+pub frontier-start : (k y v : ℕ) (cur : List ℕ) → 0 < k → y < 1024 → getD cur y 0 ≡ v → ((r : ℕ) → (r ≡ y → ⊥) → getD cur r 0 ≡ 0)
+    → Frontier (replicate k y) (replicate k v) 1 cur
+frontier-start k y v cur h g here off =
     record {
       small = λ i l. rw (getD-replicate {A = ℕ} k i y 0 (omega arith)) g;
-      at = λ i l. rw (getD-replicate {A = ℕ} k i y 0 (omega arith), getD-replicate {A = ℕ} k i v 0 (omega arith)) (sym (mask-here k y v h));
+      at = λ i l. rw (getD-replicate {A = ℕ} k i y 0 (omega arith), getD-replicate {A = ℕ} k i v 0 (omega arith)) (sym here);
       all = λ r o. al r o (ℕ-discrete r y);
     }
   where
-    al : (r : ℕ) → 0 < getD {A = ℕ} (set (replicate k 0) y v) r 0 → Dec (r ≡ y) → (i : ℕ) × (i < 1) × (getD {A = ℕ} (replicate k y) i 0 ≡ r)
+    al : (r : ℕ) → 0 < getD cur r 0 → Dec (r ≡ y) → (i : ℕ) × (i < 1) × (getD {A = ℕ} (replicate k y) i 0 ≡ r)
     al r o (yes e) = (0, omega arith, getD-replicate {A = ℕ} k 0 y 0 (omega arith) ∙ sym e)
-    al r o (no e) = absurd (let z = mask-off k y v r e in omega arith)
+    al r o (no e) = absurd (let z = off r e in omega arith)

@@ -6,6 +6,8 @@
 --   bit-off, bit-at  the set of one state
 --   kept-out, kept-none, kept-no, kept-yes
 --                    the states of a set with a given number: of no record, none looked at, one that has it not, one that has it
+--   Agree w a m d left, agree-none, agree-more, agree-kept
+--                    the states of m that are not left have the number d at the record a: none looked at, one more, all of them
 --   chosen-none, arc-small, chosen-first, chosen-more
 --                    the smallest step: no arc looked at, arcs are small, arcs of other records, one arc more
 -- Assumes nothing.
@@ -92,6 +94,22 @@ module _ {w : List ℕ} {n a m d left r k left′ : ℕ} (I : Kept w n a m d lef
       al : (q : ℕ) → a < n → On (digit m q) → numberAt w a q ≡ d → (digit left q ≡ 0) ⊎ (q ≡ k) → On (max (digit r q) (digit (2 ^ k) q))
       al q h o f (inl e) = let z = I .all q h o e f in omega arith
       al q h o f (inr e) = let z : On (digit (2 ^ k) q) = rw e (bit-at k) in omega arith
+
+pub record Agree (w : List ℕ) (a m d left : ℕ) : Type 0 where
+  pub at : (q : ℕ) → On (digit m q) → digit left q ≡ 0 → (q < 64) × (numberAt w a q ≡ d)
+
+pub agree-none : (w : List ℕ) (a m d : ℕ) → Agree w a m d m
+agree-none w a m d = record { at = λ q o e. absurd (omega arith) }
+
+pub agree-more : {w : List ℕ} {a m d left k left′ : ℕ} → Agree w a m d left → Lowest left k left′ → numberAt w a k ≡ d → Agree w a m d left′
+agree-more {w} {a} {m} {d} {left} {k} {left′} A L g = record { at = λ q o e. go q o (gone L q e) }
+  where
+    go : (q : ℕ) → On (digit m q) → (digit left q ≡ 0) ⊎ (q ≡ k) → (q < 64) × (numberAt w a q ≡ d)
+    go q o (inl e) = A .at q o e
+    go q o (inr e) = (let l = L .small in omega arith, rw e g)
+
+pub agree-kept : {w : List ℕ} {n a m d : ℕ} → a < n → Agree w a m d 0 → Kept w n a m d 0 m
+agree-kept l A = record { from = λ q o. (let z = A .at q o (digit-none q) in (z .0, l, o, z .1)); all = λ q h o e f. o }
 
 -- ---- the smallest step
 pub chosen-none : (cs es w seen : List ℕ) (n r follows d k : ℕ) → Chosen cs es w seen n r follows d k k 65536 0

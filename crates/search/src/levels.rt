@@ -4,7 +4,6 @@ use crate::Ends;
 use crate::Entry;
 use crate::LETTER_UNIT;
 use crate::LETTERS;
-use crate::Marks;
 use crate::RECORD_UNIT;
 use crate::states::spread;
 ghost use mathlib.Core.Path.{_≡_};
@@ -15,7 +14,7 @@ ghost use Rattle.book.specs.Causes.{maxRecords};
 ghost use Rattle.paths.specs.Chains.{Graph};
 ghost use Rattle.automaton.specs.Automata.{Automaton};
 ghost use Rattle.arcs.specs.Arcs.{maxArcs, arcTo};
-ghost use Rattle.arcs.specs.Index.{indexWords, Indexed};
+ghost use Rattle.arcs.specs.Index.{Indexed};
 ghost use Rattle.search.specs.Levels.{Setting, Stamped, Committed, Sought};
 ghost use Rattle.search.specs.Frontiers.{Levelling, Added, Listed, Frontier, Zero};
 
@@ -54,7 +53,8 @@ fn into(
     list: &mut [u16],
     entry: Entry,
 ) -> usize
-    requires { ⌜ (length (now arcs) ≤ maxArcs) × (length (now index) ≡ indexWords) × (length (now predecessors) ≡ 64) × (length (now enter) ≡ 64)
+    requires { ⌜ (length (now arcs) ≤ maxArcs) × (maxRecords + length (now arcs) ≤ length (now index))
+        × (length (now predecessors) ≡ 64) × (length (now enter) ≡ 64)
         × (entry .at < maxRecords) × (length (now seen) ≡ maxRecords) × (entry .n ≤ maxRecords) × (length (now next) ≡ maxRecords)
         × (length (now list) ≡ maxRecords) × Indexed (arcTo (now arcs)) (length (now arcs)) (now index)
         × Listed (now list) (entry .queued) (entry .n) (now next) ⌝ }
@@ -111,7 +111,7 @@ fn commit(
     next: &mut [u64],
     list: &[u16],
     mark: u64,
-    records: &mut [u16],
+    records: &mut [u32],
     masks: &mut [u64],
 )
     requires { ⌜ (length (now next) ≡ maxRecords) × (length (now records) ≡ maxRecords) × (length (now masks) ≡ maxRecords) × (length (now list) ≤ maxRecords)
@@ -127,36 +127,39 @@ fn commit(
         stamp(work, at, states, mark);
         seen[at] = seen[at] | states;
         next[at] = 0;
-        records[i] = list[i];
+        records[i] = list[i] as u32;
         masks[i] = states;
         i += 1;
     }
 }
 
-// The levels backward from the end, until the first state is seen at the start or a level is empty.
-pub(crate) fn backward(
+// The levels backward from the end, by an index of the arcs by the record reached, until the first state is seen at the start or a level is empty. The number
+// at the start: one more than the steps of a shortest chain, or 0 if there is none.
+fn backward_by(
     arcs: &[u32],
+    index: &[u16],
     predecessors: &[u64],
     enter: &[u64],
-    accepting: u64,
     ends: Ends,
     work: &mut [u64],
-) -> Marks
+    seen: &mut [u64],
+) -> u64
     requires { ⌜ (length (now arcs) ≤ maxArcs) × (ends .n ≤ maxRecords) × (length (now predecessors) ≡ 64)
-        × (length (now enter) ≡ 64) × (ends .from < ends .n) × (ends .to < ends .n) × (ends .n * 64 ≤ length (now work)) ⌝ }
-    ensures { λ r. ⌜ ((g : Graph) (M : Automaton) (fs : List ℕ) → Setting g M fs (now (predecessors .entry)) (now (enter .entry)) accepting (ends .n)
-        (now (arcs .entry)) (length (now (arcs .entry))) → Sought g M (ends .from) (ends .to) (ends .n) (now (work .exit)) (r .seen) (r .number)) ⌝ }
+        × (length (now enter) ≡ 64) × (ends .from < ends .n) × (ends .to < ends .n) × (ends .n * 64 ≤ length (now work))
+        × (maxRecords + length (now arcs) ≤ length (now index)) × Indexed (arcTo (now arcs)) (length (now arcs)) (now index)
+        × (length (now seen) ≡ maxRecords) × Zero (now seen) ⌝ }
+    ensures { λ r. ⌜ ((g : Graph) (M : Automaton) (fs : List ℕ) → Setting g M fs (now (predecessors .entry)) (now (enter .entry)) (ends .accepting) (ends .n)
+        (now (arcs .entry)) (length (now (arcs .entry))) → Sought g M (ends .from) (ends .to) (ends .n) (now (work .exit)) (now (seen .exit)) r) ⌝ }
 {
     let n = ends.n;
     let start = ends.from;
     let end = ends.to;
-    let index = arcs::index_by_reached(arcs);
+    let accepting = ends.accepting;
     stamp(work, end, accepting, 1);
-    let mut seen = [0u64; book::MAX_RECORDS];
     seen[end] = accepting;
     let mut next = [0u64; book::MAX_RECORDS];
     let mut list = [0u16; book::MAX_RECORDS];
-    let mut records = [end as u16; book::MAX_RECORDS];
+    let mut records = [end as u32; book::MAX_RECORDS];
     let mut masks = [accepting; book::MAX_RECORDS];
     let mut count = 1;
     let mut level: u64 = 0;
@@ -174,10 +177,10 @@ pub(crate) fn backward(
             };
             queued = into(
                 arcs,
-                &index,
+                index,
                 predecessors,
                 enter,
-                &seen,
+                seen,
                 &mut next,
                 &mut list,
                 entry,
@@ -185,11 +188,11 @@ pub(crate) fn backward(
             i += 1;
         }
         if queued == 0 {
-            return Marks { seen, number: 0 };
+            return 0;
         }
         commit(
             work,
-            &mut seen,
+            seen,
             &mut next,
             &list[0..queued],
             level + 2,
@@ -199,8 +202,30 @@ pub(crate) fn backward(
         count = queued;
         level += 1;
     }
-    Marks {
-        seen,
-        number: work[start * 64],
+    work[start * 64]
+}
+
+// The same with an index of its own: one for as many arcs as there may be, or for few.
+pub(crate) fn backward(
+    arcs: &[u32],
+    predecessors: &[u64],
+    enter: &[u64],
+    ends: Ends,
+    work: &mut [u64],
+    seen: &mut [u64],
+) -> u64
+    requires { ⌜ (length (now arcs) ≤ maxArcs) × (ends .n ≤ maxRecords) × (length (now predecessors) ≡ 64)
+        × (length (now enter) ≡ 64) × (ends .from < ends .n) × (ends .to < ends .n) × (ends .n * 64 ≤ length (now work))
+        × (length (now seen) ≡ maxRecords) × Zero (now seen) ⌝ }
+    ensures { λ r. ⌜ ((g : Graph) (M : Automaton) (fs : List ℕ) → Setting g M fs (now (predecessors .entry)) (now (enter .entry)) (ends .accepting) (ends .n)
+        (now (arcs .entry)) (length (now (arcs .entry))) → Sought g M (ends .from) (ends .to) (ends .n) (now (work .exit)) (now (seen .exit)) r) ⌝ }
+{
+    if arcs.len() <= arcs::FEW_ARCS {
+        let mut few = [0u16; arcs::FEW_INDEX_WORDS];
+        arcs::index_by_reached(arcs, &mut few);
+        return backward_by(arcs, &few, predecessors, enter, ends, work, seen);
     }
+    let mut index = [0u16; arcs::INDEX_WORDS];
+    arcs::index_by_reached(arcs, &mut index);
+    backward_by(arcs, &index, predecessors, enter, ends, work, seen)
 }

@@ -18,23 +18,18 @@ const LETTER_UNIT: usize = arcs::LETTER_UNIT as usize;
 
 const LETTERS: usize = 64;
 
-// How many records there are, and the two that a chain joins.
+// How many records there are, the two that a chain joins, and the states in which it may end.
 pub struct Ends {
     pub n: usize,
     pub from: usize,
     pub to: usize,
+    pub accepting: u64,
 }
 
 pub enum Found {
     Steps(usize),
     Nowhere,
     Short,
-}
-
-// The states seen at each record, and the number at the start: one more than the steps of a shortest chain, or 0 if there is none.
-struct Marks {
-    seen: [u64; book::MAX_RECORDS],
-    number: u64,
 }
 
 // States at a record; how many records there are, and how many of them are on the list of the next level.

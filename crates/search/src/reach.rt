@@ -8,7 +8,7 @@ use crate::states::spread;
 ghost use mathlib.Core.Path.{_≡_};
 ghost use mathlib.Core.List.{List};
 ghost use mathlib.Core.Bool.{true};
-ghost use Prim.Native.Nat.{ℕ, _<_, _≤_};
+ghost use Prim.Native.Nat.{ℕ, _+_, _<_, _≤_};
 ghost use lib.ListN.{length};
 ghost use Rattle.book.specs.Causes.{maxRecords, maxLinks};
 ghost use Rattle.paths.specs.Expressions.{Expr};
@@ -17,7 +17,7 @@ ghost use Rattle.paths.specs.ChainLaws.{Inside};
 ghost use Rattle.automaton.specs.Automata.{automaton};
 ghost use Rattle.automaton.specs.Masks.{Masked};
 ghost use Rattle.arcs.specs.Arcs.{maxArcs, arcFrom, Spans};
-ghost use Rattle.arcs.specs.Index.{indexWords, Indexed};
+ghost use Rattle.arcs.specs.Index.{Indexed};
 ghost use Rattle.search.specs.Levels.{Spread};
 ghost use Rattle.search.specs.Frontiers.{Listed};
 ghost use Rattle.search.specs.Reaching.{Expanding, Reached, Fewer, Ended};
@@ -32,7 +32,8 @@ fn out_of(
     list: &mut [u16],
     entry: Entry,
 ) -> usize
-    requires { ⌜ (length (now arcs) ≤ maxArcs) × (length (now index) ≡ indexWords) × (length (now enter) ≡ 64) × (length (now seen) ≡ maxRecords)
+    requires { ⌜ (length (now arcs) ≤ maxArcs) × (maxRecords + length (now arcs) ≤ length (now index))
+        × (length (now enter) ≡ 64) × (length (now seen) ≡ maxRecords)
         × (length (now pending) ≡ maxRecords) × (length (now list) ≡ maxRecords) × (entry .n ≤ maxRecords) × (entry .at < maxRecords)
         × Indexed (arcFrom (now arcs)) (length (now arcs)) (now index) × Listed (now list) (entry .queued) (entry .n) (now pending) ⌝ }
     ensures { λ c. ⌜ Listed (now (list .exit)) c (entry .n) (now (pending .exit))
@@ -79,7 +80,8 @@ fn reach(
     requires { ⌜ (length (now arcs) ≤ maxArcs) × (length (now follow) ≡ 64) × (length (now enter) ≡ 64) × (n ≤ maxRecords) × (from < n) ⌝ }
     ensures { λ r. ⌜ Reached (now (follow .entry)) (now (enter .entry)) (now (arcs .entry)) (length (now (arcs .entry))) n from r ⌝ }
 {
-    let index = arcs::index_by_left(arcs);
+    let mut index = [0u16; arcs::INDEX_WORDS];
+    arcs::index_by_left(arcs, &mut index);
     let mut seen = [0u64; book::MAX_RECORDS];
     seen[from] = 1;
     let mut pending = [0u64; book::MAX_RECORDS];

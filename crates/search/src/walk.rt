@@ -7,21 +7,18 @@ use crate::RECORD_UNIT;
 use crate::Route;
 use crate::states::spread;
 ghost use mathlib.Core.Path.{_≡_};
-ghost use Prim.Native.Nat.{_*_, _<_, _≤_};
+ghost use Prim.Native.Nat.{_+_, _*_, _<_, _≤_};
 ghost use lib.ListN.{length};
 ghost use Rattle.book.specs.Causes.{maxRecords};
 ghost use Rattle.arcs.specs.Arcs.{maxArcs, arcFrom};
-ghost use Rattle.arcs.specs.Index.{indexWords, Indexed};
+ghost use Rattle.arcs.specs.Index.{Indexed};
 ghost use Rattle.search.specs.Steps.{Kept, Chosen, Better, Walked};
 
-// Those of the states whose number at a record below n is the distance.
-fn kept(work: &[u64], n: usize, at: usize, states: u64, distance: u64) -> u64
-    requires { ⌜ (n * 64 ≤ length (now work)) × (n ≤ maxRecords) ⌝ }
+// Those of the states whose number at a record is the distance, each looked at.
+fn kept_each(work: &[u64], n: usize, at: usize, states: u64, distance: u64) -> u64
+    requires { ⌜ (n * 64 ≤ length (now work)) × (n ≤ maxRecords) × (at < n) ⌝ }
     ensures { λ r. ⌜ Kept (now (work .entry)) n at states distance 0 r ⌝ }
 {
-    if n <= at {
-        return 0;
-    }
     let mut found = 0;
     let mut left = states;
     while left != 0 {
@@ -32,6 +29,25 @@ fn kept(work: &[u64], n: usize, at: usize, states: u64, distance: u64) -> u64
         left = left & (left - 1);
     }
     found
+}
+
+// Those of the states whose number at a record below n is the distance: most often all of them, which then need not be gathered.
+fn kept(work: &[u64], n: usize, at: usize, states: u64, distance: u64) -> u64
+    requires { ⌜ (n * 64 ≤ length (now work)) × (n ≤ maxRecords) ⌝ }
+    ensures { λ r. ⌜ Kept (now (work .entry)) n at states distance 0 r ⌝ }
+{
+    if n <= at {
+        return 0;
+    }
+    let mut left = states;
+    while left != 0 {
+        let q = u64::trailing_zeros(left) as usize;
+        if work[at * 64 + q] != distance {
+            return kept_each(work, n, at, states, distance);
+        }
+        left = left & (left - 1);
+    }
+    states
 }
 
 // No step word: each is less.
@@ -59,7 +75,8 @@ fn choose(
     seen: &[u64],
     aim: Aim,
 ) -> Choice
-    requires { ⌜ (length (now arcs) ≤ maxArcs) × (length (now index) ≡ indexWords) × (length (now enter) ≡ 64) × (aim .n * 64 ≤ length (now work))
+    requires { ⌜ (length (now arcs) ≤ maxArcs) × (maxRecords + length (now arcs) ≤ length (now index))
+        × (length (now enter) ≡ 64) × (aim .n * 64 ≤ length (now work))
         × (length (now seen) ≡ maxRecords) × (aim .n ≤ maxRecords) × (aim .at < maxRecords) × Indexed (arcFrom (now arcs)) (length (now arcs)) (now index) ⌝ }
     ensures { λ r. ⌜ Chosen (now (arcs .entry)) (now (enter .entry)) (now (work .entry)) (now (seen .entry))
         (aim .n) (aim .at) (aim .follows) (aim .distance) (length (now (arcs .entry))) 0 (r .word) (r .states) ⌝ }
@@ -90,7 +107,46 @@ fn choose(
     best
 }
 
-// The steps of a route: each time the smallest that leads on.
+// The steps of a route, by an index of the arcs by the record left: each time the smallest that leads on.
+fn forward_by(
+    arcs: &[u32],
+    index: &[u16],
+    follow: &[u64],
+    enter: &[u64],
+    work: &[u64],
+    seen: &[u64],
+    route: Route,
+    out: &mut [u32],
+)
+    requires { ⌜ (length (now arcs) ≤ maxArcs) × (length (now follow) ≡ 64) × (length (now enter) ≡ 64) × (route .n * 64 ≤ length (now work))
+        × (length (now seen) ≡ maxRecords) × (route .n ≤ maxRecords) × (route .from < route .n) × (route .steps ≤ length (now out))
+        × (maxRecords + length (now arcs) ≤ length (now index)) × Indexed (arcFrom (now arcs)) (length (now arcs)) (now index) ⌝ }
+    ensures { λ _. ⌜ Walked (now (follow .entry)) (now (enter .entry)) (now (work .entry)) (now (seen .entry)) (now (arcs .entry))
+        (length (now (arcs .entry))) (route .n) (route .from) (route .steps) (now (out .entry)) (now (out .exit)) ⌝ }
+{
+    let n = route.n;
+    let steps = route.steps;
+    let mut at = route.from;
+    let mut states: u64 = 1;
+    let mut t = 0;
+    while t < steps {
+        let follows = spread(follow, states);
+        let distance = (steps - t) as u64;
+        let aim = Aim {
+            n,
+            at,
+            follows,
+            distance,
+        };
+        let choice = choose(arcs, index, enter, work, seen, aim);
+        out[t] = choice.word;
+        at = (choice.word % arcs::RECORD_UNIT) as usize;
+        states = choice.states;
+        t += 1;
+    }
+}
+
+// The same with an index of its own: one for as many arcs as there may be, or for few.
 pub(crate) fn forward(
     arcs: &[u32],
     follow: &[u64],
@@ -105,25 +161,13 @@ pub(crate) fn forward(
     ensures { λ _. ⌜ Walked (now (follow .entry)) (now (enter .entry)) (now (work .entry)) (now (seen .entry)) (now (arcs .entry))
         (length (now (arcs .entry))) (route .n) (route .from) (route .steps) (now (out .entry)) (now (out .exit)) ⌝ }
 {
-    let n = route.n;
-    let steps = route.steps;
-    let index = arcs::index_by_left(arcs);
-    let mut at = route.from;
-    let mut states: u64 = 1;
-    let mut t = 0;
-    while t < steps {
-        let follows = spread(follow, states);
-        let distance = (steps - t) as u64;
-        let aim = Aim {
-            n,
-            at,
-            follows,
-            distance,
-        };
-        let choice = choose(arcs, &index, enter, work, seen, aim);
-        out[t] = choice.word;
-        at = (choice.word % arcs::RECORD_UNIT) as usize;
-        states = choice.states;
-        t += 1;
+    if arcs.len() <= arcs::FEW_ARCS {
+        let mut few = [0u16; arcs::FEW_INDEX_WORDS];
+        arcs::index_by_left(arcs, &mut few);
+        forward_by(arcs, &few, follow, enter, work, seen, route, out);
+        return;
     }
+    let mut index = [0u16; arcs::INDEX_WORDS];
+    arcs::index_by_left(arcs, &mut index);
+    forward_by(arcs, &index, follow, enter, work, seen, route, out);
 }

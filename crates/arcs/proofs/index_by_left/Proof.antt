@@ -1,11 +1,19 @@
 -- `index_by_left` is `index_of` with the bits of the record left (`key-from`). Assumes nothing.
-use borrow.Author.Needs.{needs}
+use native.Mathlib.Omega.{arith}
 use Rattle.arcs.proofs.IndexingLaws.{key-from}
 use Rattle.arcs.proofs.index_by_left.Statement.{statement}
 use Rattle.arcs.proofs.index_by_left.Tie as tie
 
+index-of-requires : tie.Need-index-of-requires
+index-of-requires c κs = let p = c .before .before .before .pre in (p .0, omega arith, p .1, p .2)
+
+same-length : tie.Need-same-length
+same-length c = c .before .before .index-of .kept .1 .1 .0
+
 returns : tie.Need-returns
-returns c = rw (key-from (c .before .before .args .arcs .now)) at (c .index-of .ensures)
+returns c =
+    let start = c .before .before .before .before .before .before in
+    rw (key-from (start .args .arcs .now)) at (c .before .before .index-of .ensures)
 
 pub index-by-left-spec : {M : Type 1} → statement M
-index-by-left-spec = tie.close (tie.spec (λ c κs. search needs) returns)
+index-by-left-spec = tie.close (tie.spec index-of-requires same-length returns)

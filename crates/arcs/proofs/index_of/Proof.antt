@@ -1,9 +1,9 @@
 -- `index_of` goes over the arcs. The loop's invariant: the index is that of the first j arcs (`Indexed`). The measure is what is left of the arcs. It rests on
 -- `indexed-more`. Assumes nothing.
-use mathlib.Core.Path.{_≡_}
-use Prim.Native.Nat.{ℕ, _-_, _≤_}
+use mathlib.Core.Path.{_≡_, refl}
+use Prim.Native.Nat.{_-_, _≤_}
 use native.Mathlib.Omega.{arith}
-use lib.ListN.{length, length-set, length-replicate}
+use lib.ListN.{length, length-set}
 use Rattle.arcs.specs.Index.{keyAt, Indexed}
 use Rattle.arcs.proofs.IndexingLaws.{key-lt, indexed-none, indexed-more}
 use Rattle.arcs.proofs.index_of.Statement.{statement}
@@ -11,20 +11,27 @@ use Rattle.arcs.proofs.index_of.Tie as tie
 
 abbrev Inv-loop : tie.InvT-loop
 Inv-loop arcs key index₀ j₀ index j =
-    (j ≤ length arcs) × (length index ≡ 9216) × Indexed (keyAt arcs key) j index
+    (j ≤ length arcs) × (length index ≡ length index₀) × Indexed (keyAt arcs key) j index
 
 abbrev μ-loop : tie.MeasureT-loop
 μ-loop arcs key index₀ j₀ index j = length arcs - j
 
 loop-holds : tie.Need-loop-holds Inv-loop μ-loop
-loop-holds c = (omega arith, length-replicate {A = ℕ} 9216 0, indexed-none _ 9216 (omega arith))
+loop-holds c = (omega arith, refl, indexed-none _ _ (c .pre .3))
+
+slice-write-index-2 : tie.Need-slice-write-index-2 Inv-loop μ-loop
+slice-write-index-2 c = rw length-set (omega arith)
 
 loop-again : tie.Need-loop-again Inv-loop μ-loop
 unfolding keyAt
 loop-again c =
-    let s = c .before .before .before .args in
-    let l = c .before .before .loop in
-    (omega arith, simp (length-set, length-set) (l .inv .1), indexed-more (l .inv .2) (key-lt (s .arcs .now) (s .key)) (omega arith) (l .inv .1))
+    let at-loop = c .before .before .before in
+    let s = at-loop .before .args in
+    let l = at-loop .loop in
+    (omega arith, simp (length-set, length-set) (l .inv .1), indexed-more (l .inv .2) (key-lt (s .arcs .now) (s .key)) (omega arith))
+
+same-length : tie.Need-same-length Inv-loop μ-loop
+same-length c = c .before .loop .inv .1
 
 returns : tie.Need-returns Inv-loop μ-loop
 returns c = let l = c .before .loop in let e : l .j ≡ length (c .before .before .args .arcs .now) = omega arith in rw e at (l .inv .2)
@@ -37,7 +44,9 @@ index-of-spec =
     μ-loop
     loop-holds
     (λ c. omega arith) (λ c. omega arith) (λ c. omega arith) (λ c. omega arith) (λ c. omega arith) (λ c. omega arith) (λ c. omega arith)
-    (λ c. omega arith) (λ c. omega arith) (λ c. omega arith) (λ c. omega arith) (λ c. omega arith) (λ c. omega arith) (λ c. omega arith)
-    (λ c. omega arith)
+    (λ c. omega arith) (λ c. omega arith) (λ c. omega arith) (λ c. omega arith) (λ c. omega arith)
+    slice-write-index-2
+    (λ c. omega arith) (λ c. omega arith)
     loop-again
+    same-length
     returns)

@@ -1,5 +1,5 @@
 -- `chain_over` meets its contract: each refusal by the causes' order, and the search's answer by what a reply is (ReplyLaws). Assumes nothing.
-use mathlib.Core.Path.{_≡_, refl}
+use mathlib.Core.Path.{_≡_}
 use mathlib.Core.Logic.{inl, inr}
 use Prim.Native.Nat.{_-_}
 use native.Mathlib.Omega.{arith}
@@ -47,7 +47,7 @@ sought-requires c κs =
     let a = accepted here in
     let part : here .answer2 .given .0 .0 - 0 ≡ here .answer2 .given .0 .0 = omega arith in
     let p = start .pre in
-    (p .0, p .1, refl, omega arith, omega arith, omega arith, (start .args .text .now, a .0, a .1 .limits, rw part (a .1 .front)))
+    (p .0, p .1, omega arith, omega arith, omega arith, (start .args .text .now, a .0, a .1 .limits, rw part (a .1 .front)))
 
 returns-4 : tie.Need-returns-4
 returns-4 c =
@@ -60,7 +60,8 @@ replied : (c : tie.After-sought) (self : Register)
     let start = earlier .before .before .before .before .before .before .before .before .before in
     let s = start .args in
     ReadOf self (s .marks .now) (s .links .now)
-    → Replies self (s .from) (s .to) (s .text .now) (length (s .work .now)) (s .list .now) (c .sought .last .1 .1 .1 .1 .1 .0) (foundAnswer (c .sought .result))
+    → Replies self (s .from) (s .to) (s .text .now) (length (s .work .now)) (s .list .now)
+    (c .sought .last .1 .1 .1 .1 .1 .1 .0) (foundAnswer (c .sought .result))
 replied c self L =
     let else3 = c .before .before .before .before .before in
     let else2 = else3 .before .before .before .before .before .before in
@@ -69,7 +70,7 @@ replied c self L =
     let a = accepted here in
     let part : here .answer2 .given .0 .0 - 0 ≡ here .answer2 .given .0 .0 = omega arith in
     let s = c .sought in
-    replies (L .size) (else2 .before .if1 .left) (else2 .if2 .left) (a .0) (a .1 .is) (else3 .if3 .left) (s .ensures .0) (s .kept .1 .1 .1 .1 .1 .0)
+    replies (L .size) (else2 .before .if1 .left) (else2 .if2 .left) (a .0) (a .1 .is) (else3 .if3 .left) (s .ensures .0) (s .kept .1 .1 .1 .1 .1 .1 .0)
     (λ b R. s .ensures .1 (start .args .text .now) (a .0) (a .1 .limits) (rw part (a .1 .front)) self b R L)
 
 returns-5 : tie.Need-returns-5

@@ -1,6 +1,6 @@
 -- `sought` meets its contract: from or to a withdrawn record there is no chain; else the tables are those of the expression's automaton, and the search's
 -- promise is over any such tables and links. Assumes nothing.
-use mathlib.Core.Path.{refl, sym, _∙_}
+use mathlib.Core.Path.{refl}
 use native.Mathlib.Omega.{arith}
 use borrow.Author.Needs.{needs}
 use Rattle.paths.specs.Chains.{asked}
@@ -13,20 +13,18 @@ use Rattle.chains.proofs.sought.Tie as tie
 returns : tie.Need-returns
 returns c =
     let a = c .before .before .before .before .before .before .before .args in
-    (none refl, λ text e L q self b R T. withdrawn-from b e _ _ (a .list .now) (out-of-use R T (a .ends .from) (omega arith) (c .if1 .taken)))
+    (none refl, λ text e L q self b R T. withdrawn-from b e _ _ (a .list .now) (out-of-use R T (a .from) (omega arith) (c .if1 .taken)))
 
 returns-2 : tie.Need-returns-2
 returns-2 c =
     let a = c .before .before .before .before .before .before .before .before .before .args in
-    (none refl, λ text e L q self b R T. withdrawn-to b e _ _ (a .list .now) (out-of-use R T (a .ends .to) (omega arith) (c .if2 .taken)))
+    (none refl, λ text e L q self b R T. withdrawn-to b e _ _ (a .list .now) (out-of-use R T (a .to) (omega arith) (c .if2 .taken)))
 
 first-chain-requires : tie.Need-first-chain-requires
 first-chain-requires c κs =
     let p = (let earlier = c .before .before .before .before .before .before .before .before .before in
     earlier .before .before .before .before .before .before .before .before .before) .pre in
-    let small = p .0 in
-    let size = p .2 in
-    (p .1, omega arith, search needs, search needs, search needs, p .3, p .4, p .5)
+    (p .1, p .0, search needs, search needs, search needs, p .2, p .3, p .4)
 
 returns-3 : tie.Need-returns-3
 returns-3 c =
@@ -34,14 +32,14 @@ returns-3 c =
     let after-tables-of = after-first-chain .before .before .before .before .before .before .before .before .before in
     let else1 = after-tables-of .before .before .before in
     let start = else1 .before .before .before .before .before .before .before in
-    let a = start .args .ends in
+    let a = start .args in
     let p = start .pre in
     let f = after-first-chain .first-chain .ensures in (
       f .0,
       λ text e L q self b R T.
-          f .1 (asked b) e (asked-size R T ∙ sym (p .2)) (inside R) (spans R T (p .0)) (after-tables-of .tables-of .ensures text e L q)
-          (used R T (a .from) (omega (arith, p .2, p .3)) (else1 .if1 .left))
-          (used R T (a .to) (omega (arith, p .2, p .4)) (after-tables-of .before .if2 .left)),
+          f .1 (asked b) e (asked-size R T) (inside R) (spans R T (p .0)) (after-tables-of .tables-of .ensures text e L q)
+          (used R T (a .from) (p .2) (else1 .if1 .left))
+          (used R T (a .to) (p .3) (after-tables-of .before .if2 .left)),
     )
 
 pub sought-spec : {M : Type 1} → statement M

@@ -75,7 +75,7 @@ visit-slice-write-depths t c =
     omega (arith, start .pre .1 .2, start .pre .1 .3)
 
 visit-first-arc-requires : (t : ℕ) → visit-lts.Need-first-arc-requires (visit-calls t) (visit-at t) visit.Post visit-Inv-loop visit-μ-loop
-visit-first-arc-requires t c κs = let w = c .before .before .before .before .before .pre .1 in (w .1, w .2)
+visit-first-arc-requires t c κs = let w = c .before .before .before .before .before .pre .1 in omega (arith, w .1, w .2)
 
 visit-loop-holds : (t : ℕ) → visit-lts.Need-loop-holds (visit-calls t) (visit-at t) visit.Post visit-Inv-loop visit-μ-loop
 visit-loop-holds t c =
@@ -141,7 +141,7 @@ visit-next-arc-requires : (t : ℕ) → visit-lts.Need-next-arc-requires (visit-
 visit-next-arc-requires t c κs =
     let w = c .before .before .before .before .before .before .before .before .before .before .before .before .before .before .before .pre .1 in
     let L = looked t (c .before .before .before .before .before .before .before .before) in
-    (w .1, omega (arith, L .cursor .0, w .0))
+    (omega (arith, L .cursor .0, w .0, w .1), omega (arith, L .cursor .0, w .0))
 
 visit-loop-less : (t : ℕ) → visit-lts.Need-loop-less (visit-calls t) (visit-at t) visit.Post visit-Inv-loop visit-μ-loop
 visit-loop-less t c =

@@ -6,6 +6,7 @@ use Prim.Native.Nat.{ℕ, _≤_, _-_}
 use native.Mathlib.Omega.{arith}
 use borrow.Author.Needs.{needs}
 use lib.ListN.{length, length-replicate}
+use Rattle.k2.specs.BitLaws.{zeros-at}
 use Rattle.generations.proofs.DepthLaws.{Settled, settled-none, settled-more, settled-loop}
 use Rattle.generations.proofs.depths.visit_all.Statement.{statement}
 use Rattle.generations.proofs.depths.visit_all.Tie as tie
@@ -17,50 +18,55 @@ abbrev μ-loop : tie.MeasureT-loop
 μ-loop links n depths₀ index y₀ depths y = n - y
 
 index-by-reached-requires : tie.Need-index-by-reached-requires Inv-loop μ-loop
-index-by-reached-requires c κs = omega (arith, c .before .before .pre .0)
+index-by-reached-requires c κs =
+    let small = c .before .before .before .pre .0 in
+    (omega arith, omega (arith, length-replicate {A = ℕ} 9216 0), zeros-at 9216)
 
 loop-holds : tie.Need-loop-holds Inv-loop μ-loop
 loop-holds c =
-    let start = c .before .before .before in
+    let start = c .before .before .before .before .before in
     (omega arith, ap length (start .pre .2) ∙ length-replicate {A = ℕ} 1024 0, settled-none 1024 (start .pre .2))
 
 visit-requires : tie.Need-visit-requires Inv-loop μ-loop
 visit-requires c κs =
     let at-loop = c .before .before .before in
-    let start = at-loop .before .before .before .before in
-    let l = at-loop .loop in (
+    let start = c .before .before .before .before .before .before .before .before .before in
+    let l = at-loop .loop in
+    let X = c .before .before .before .before .before .index-by-reached in (
       start .pre .0,
-      search needs,
+      X .kept .1 .0 ∙ length-replicate {A = ℕ} 9216 0,
       omega (arith, start .pre .1, c .before .before .loop-test .taken),
       l .inv .1,
-      at-loop .before .index-by-reached .ensures,
+      X .ensures,
       l .inv .2 .bounded,
     )
 
 same-length : tie.Need-same-length Inv-loop μ-loop
 same-length c =
     let after-visit = c .before .before .before in
-    let at-loop = after-visit .before .before .before .before in
-    let start = at-loop .before .before .before .before in
+    let at-loop = c .before .before .before .before .before .before .before in
+    let start = c .before .before .before .before .before .before .before .before .before .before .before .before .before in
     after-visit .visit .kept .1 .1 .1 .0 ∙ at-loop .loop .inv .1 ∙ sym (ap length (start .pre .2) ∙ length-replicate {A = ℕ} 1024 0)
 
 returns : tie.Need-returns Inv-loop μ-loop
 returns c =
     let after-visit = c .before .before .before in
-    let at-loop = after-visit .before .before .before .before in
+    let at-loop = c .before .before .before .before .before .before .before in
     (λ e. absurd (false≢true e), λ e. settled-loop (at-loop .loop .inv .2) (after-visit .visit .ensures) (c .if1 .taken))
 
 loop-again : tie.Need-loop-again Inv-loop μ-loop
 loop-again c =
     let after-visit = c .before .before .before in
-    let at-loop = after-visit .before .before .before .before in (
+    let at-loop = c .before .before .before .before .before .before .before in (
       omega arith,
       after-visit .visit .kept .1 .1 .1 .0 ∙ at-loop .loop .inv .1,
       settled-more (at-loop .loop .inv .2) (after-visit .visit .ensures) (c .if1 .left),
     )
 
 same-length-2 : tie.Need-same-length-2 Inv-loop μ-loop
-same-length-2 c = c .before .loop .inv .1 ∙ sym (ap length (c .before .before .before .before .before .pre .2) ∙ length-replicate {A = ℕ} 1024 0)
+same-length-2 c =
+    let start = c .before .before .before .before .before .before .before in
+    c .before .loop .inv .1 ∙ sym (ap length (start .pre .2) ∙ length-replicate {A = ℕ} 1024 0)
 
 returns-2 : tie.Need-returns-2 Inv-loop μ-loop
 returns-2 c =
@@ -73,6 +79,7 @@ visit-all-spec =
     (tie.spec
     Inv-loop
     μ-loop
+    (λ c. search needs)
     index-by-reached-requires
     loop-holds
     (λ c. search needs)

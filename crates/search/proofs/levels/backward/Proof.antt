@@ -1,297 +1,49 @@
--- `backward` makes level after level. The outer loop's invariant: whatever graph and automaton the arcs and tables are of, the numbers are known after so many
--- levels (`Level`); the records and words held are those of the current level (`Frontier`); and at least as many states have been seen. The measure is the
--- number of states not seen, which each level that is not empty lessens (`level-falls`). It rests on `level-next`, and where a level is empty on `level-empty`.
--- The inner loop goes over the records of the current level. Its invariant: the list has the records of the words (`Listed`), and the arcs passed are those
--- into the first i records (`Levelling`). The measure is what is left of the records. It rests on `levelling-all`. Assumes nothing.
-use mathlib.Core.Path.{_≡_, refl, sym, _∙_, subst}
-use mathlib.Core.List.{List}
-use Prim.Native.Nat.{ℕ, suc, _+_, _*_, _-_, _≤_, _<_}
-use native.Mathlib.Numerals.{add-one}
+-- `backward` makes the index by which `backward_by` goes: a short one where there are few arcs. Assumes nothing.
+use mathlib.Core.Path.{_≡_, _∙_}
+use Prim.Native.Nat.{ℕ}
 use native.Mathlib.Omega.{arith}
 use borrow.Author.Needs.{needs}
-use lib.ListN.{length, getD, set, take, replicate, length-set, length-replicate}
-use lib.Seq.{length-take-le}
-use Rattle.k2.specs.Bits.{bitAt, onesBelow}
-use Rattle.k2.specs.DigitLaws.{digit-zero}
+use lib.ListN.{length, length-replicate}
 use Rattle.k2.specs.BitLaws.{zeros-at}
-use Rattle.paths.specs.Chains.{Graph}
-use Rattle.automaton.specs.Automata.{Automaton}
-use Rattle.search.specs.Levels.{Setting, Levelled, numberAt, nowhere}
-use Rattle.search.specs.Frontiers.{Levelling, Listed, Frontier, Zero}
-use Rattle.search.proofs.LevelLaws.{Level, level-start, level-next, level-falls, level-empty, mask-here, mask-off, bits-few, sought}
-use Rattle.search.proofs.FrontierLaws.{listed-none, listed-fits, listed-take, none-listed, frontier-start}
-use Rattle.search.proofs.LevellingLaws.{levelling-none, levelling-all}
-use Rattle.search.proofs.CommitLaws.{commit-zero}
 use Rattle.search.proofs.levels.backward.Statement.{statement}
 use Rattle.search.proofs.levels.backward.Tie as tie
 
-abbrev Inv-loop2 : tie.InvT-loop2
-Inv-loop2 arcs predecessors enter accepting work n start end index seen next₀ list₀ records masks count level listed₀ i₀ next list queued i =
-    (i ≤ count) × (length next ≡ 1024) × (length list ≡ 1024) × Listed list queued n next
-    × ((cur : List ℕ) → Frontier records masks count cur → Levelling arcs predecessors enter cur seen n (length arcs) records i (length arcs) next)
+index-by-reached-requires : tie.Need-index-by-reached-requires
+index-by-reached-requires c κs =
+    let start = c .before .before .before .before .before .before .before in
+    let p = start .pre in (p .0, omega (arith, length-replicate {A = ℕ} 2048 0, c .before .if1 .taken), zeros-at 2048)
 
-abbrev μ-loop2 : tie.MeasureT-loop2
-μ-loop2 arcs predecessors enter accepting work n start end index seen next₀ list₀ records masks count level listed₀ i₀ next list queued i = count - i
-
-abbrev Inv-loop : tie.InvT-loop
-Inv-loop arcs predecessors enter accepting work₀ n start end index seen₀ next₀
-    list₀ records₀ masks₀ count₀ level₀ work seen next list records masks count level =
-    (length work ≡ length work₀) × (length seen ≡ 1024) × (length next ≡ 1024) × (length list ≡ 1024) × (length records ≡ 1024) × (length masks ≡ 1024)
-    × (count ≤ 1024) × (level ≤ onesBelow (bitAt seen) (n * 64)) × Zero next
-    × (cur : List ℕ) × Frontier records masks count cur
-    × ((g : Graph) (M : Automaton) (fs : List ℕ) → Setting g M fs predecessors enter accepting n arcs (length arcs) → Level g M end n level work seen cur)
-
-abbrev μ-loop : tie.MeasureT-loop
-μ-loop arcs predecessors enter accepting work₀ n start end index seen₀ next₀ list₀ records₀ masks₀ count₀ level₀ work seen next list records masks count level =
-    n * 64 - onesBelow (bitAt seen) (n * 64)
-
-loop-holds : tie.Need-loop-holds Inv-loop2 μ-loop2 Inv-loop μ-loop
-loop-holds c =
-    let s = c .before .before .before .before .before .before .before .before .before .args in
-    let cur : List ℕ = set (replicate 1024 0) (s .ends .to) (s .accepting) in
-    let long : length cur ≡ 1024 = simp length-set (length-replicate {A = ℕ} 1024 0) in (
-      refl,
-      long,
-      length-replicate {A = ℕ} 1024 0,
-      length-replicate {A = ℕ} 1024 0,
-      length-replicate {A = ℕ} 1024 (s .ends .to),
-      length-replicate {A = ℕ} 1024 (s .accepting),
-      omega arith,
-      omega arith,
-      zeros-at 1024,
-      cur,
-      frontier-start 1024 (s .ends .to) (s .accepting) (omega arith) (omega arith),
-      λ g M fs S. level-start S (c .before .before .stamp .ensures) cur
-          (mask-here 1024 (s .ends .to) (s .accepting) (omega arith)) (mask-off 1024 (s .ends .to) (s .accepting)),
-    )
-
-loop2-holds : tie.Need-loop2-holds Inv-loop2 μ-loop2 Inv-loop μ-loop
-loop2-holds c = let i = c .before .loop .inv in (omega arith, i .2, i .3, listed-none _ _ _ (i .8), λ cur F. levelling-none _ _ _ _ _ _ _ _ _ (i .8))
-
--- the record at i
-inside : (c : tie.In-loop2 Inv-loop2 μ-loop2 Inv-loop μ-loop) → getD (c .before .before .before .loop .records) (c .before .loop2 .i) 0 < 1024
-inside c = c .before .before .before .loop .inv .10 .small (c .before .loop2 .i) (omega arith)
-
-cast-at : tie.Need-cast-at Inv-loop2 μ-loop2 Inv-loop μ-loop
-cast-at c = omega (arith, inside (c))
-
-slice-aggregate-into-2 : tie.Need-slice-aggregate-into-2 Inv-loop2 μ-loop2 Inv-loop μ-loop
-slice-aggregate-into-2 c = sym (c .before .before .before .before .before .loop .inv .1)
-
-slice-aggregate-into-3 : tie.Need-slice-aggregate-into-3 Inv-loop2 μ-loop2 Inv-loop μ-loop
-slice-aggregate-into-3 c = sym (c .before .before .before .before .loop2 .inv .1)
-
-slice-aggregate-into-4 : tie.Need-slice-aggregate-into-4 Inv-loop2 μ-loop2 Inv-loop μ-loop
-slice-aggregate-into-4 c = sym (c .before .before .before .before .before .loop2 .inv .2)
-
-into-requires : tie.Need-into-requires Inv-loop2 μ-loop2 Inv-loop μ-loop
-into-requires c κs =
-    let in-loop2 = c .before .before .before .before in
-    let at-loop = in-loop2 .before .before .before in
-    let after-index-by-reached = at-loop .before .before .before .before .before in
-    let start = after-index-by-reached .before .before .before .before .before in
+backward-by-requires : tie.Need-backward-by-requires
+backward-by-requires c κs =
+    let after-index-by-reached = c .before .before .before .before in
+    let start = after-index-by-reached .before .before .before .before .before .before .before .before in
     let p = start .pre in
-    let l = in-loop2 .before .loop2 .inv in
     let X = after-index-by-reached .index-by-reached in
-    let long : length (X .result) ≡ 9216 = search needs in
-    (p .0, long, p .2, p .3, inside in-loop2, at-loop .loop .inv .1, p .1, l .1, l .2, X .ensures, l .3)
+    let long : length (X .last .1 .0) ≡ 2048 = X .kept .1 .0 ∙ length-replicate {A = ℕ} 2048 0 in
+    (p .0, p .1, p .2, p .3, p .4, p .5, p .6, omega (arith, long, after-index-by-reached .before .before .if1 .taken), X .ensures, p .7, p .8)
 
-loop2-again : tie.Need-loop2-again Inv-loop2 μ-loop2 Inv-loop μ-loop
-loop2-again c =
-    let l = c .before .before .before .before .before .before .before .before .loop2 in
-    let P = c .before .before .into in (
-      omega arith,
-      _∙_ {b = length (l .next)} (P .kept .1 .1 .1 .1 .1 .0) (l .inv .1),
-      _∙_ {b = length (l .list)} (P .kept .1 .1 .1 .1 .1 .1 .0) (l .inv .2),
-      P .ensures .0,
-      λ cur F. P .ensures .1 cur _ (l .i) refl (F .at (l .i) (omega arith)) (l .inv .4 cur F),
-    )
+index-by-reached-requires-2 : tie.Need-index-by-reached-requires-2
+index-by-reached-requires-2 c κs =
+    let start = c .before .before .before .before .before .before .before in
+    let p = start .pre in (p .0, omega (arith, length-replicate {A = ℕ} 9216 0, p .0), zeros-at 9216)
 
--- the level is made
-made : (c : tie.After-loop2 Inv-loop2 μ-loop2 Inv-loop μ-loop)
-    → let at-loop = c .before .before .before in
-    let start = at-loop .before .before .before .before .before .before .before .before .before .before in
-    (cur : List ℕ) → Frontier (at-loop .loop .records) (at-loop .loop .masks) (at-loop .loop .count) cur
-    → Levelled (start .args .arcs .now) (start .args .predecessors .now) (start .args .enter .now) cur
-    (at-loop .loop .seen) (start .args .ends .n) (length (start .args .arcs .now)) (c .before .loop2 .next)
-made c cur F = let l = c .before .loop2 in let e : l .i ≡ c .before .before .before .loop .count = omega arith in levelling-all (rw e at (l .inv .4 cur F)) F
-
--- the records queued, as they are lent
-part-long : (c : tie.After-loop2 Inv-loop2 μ-loop2 Inv-loop μ-loop)
-    → length (take (c .before .loop2 .queued - 0) (c .before .loop2 .list)) ≡ c .before .loop2 .queued - 0
-part-long c = let l = c .before .loop2 in let h = listed-fits (l .inv .3) in length-take-le (l .queued - 0) (l .list) (omega (arith, l .inv .2))
-
-listed-part : (c : tie.After-loop2 Inv-loop2 μ-loop2 Inv-loop μ-loop)
-    → let start = c .before .before .before .before .before .before .before .before .before .before .before .before .before in
-    Listed (take (c .before .loop2 .queued - 0) (c .before .loop2 .list))
-    (length (take (c .before .loop2 .queued - 0) (c .before .loop2 .list))) (start .args .ends .n) (c .before .loop2 .next)
-listed-part c =
-    let l = c .before .loop2 in
-    let h = listed-fits (l .inv .3) in
-    let part : l .queued - 0 ≡ l .queued = omega arith in
-    rw part (listed-take (l .inv .3) (omega (arith, l .inv .2)))
-
-same-length : tie.Need-same-length Inv-loop2 μ-loop2 Inv-loop μ-loop
-same-length c = c .before .before .before .before .loop .inv .0 ∙ c .before .before .before .before .before .before .before .stamp .kept .0
-
-returns : tie.Need-returns Inv-loop2 μ-loop2 Inv-loop μ-loop
-returns c =
-    let in-loop = c .before .before .before in
-    let start = in-loop .before .before .before .before .before .before .before .before .before .before .before in
-    let i = in-loop .before .loop .inv in
-    let none = none-listed (c .before .before .loop2 .inv .3) (c .if1 .taken) in
-    let unseen = digit-zero _ ∙ in-loop .loop-test .taken in
-    λ g M fs S. nowhere
-    (level-empty S (i .11 g M fs S) (made (c .before) (i .9) (i .10)) (commit-zero _ _ _ _ _ none) (start .args .ends .from) (start .pre .4) unseen none)
-
-slice-aggregate-commit : tie.Need-slice-aggregate-commit Inv-loop2 μ-loop2 Inv-loop μ-loop
-slice-aggregate-commit c = sym (c .before .before .before .before .before .before .loop .inv .1)
-
-slice-aggregate-commit-2 : tie.Need-slice-aggregate-commit-2 Inv-loop2 μ-loop2 Inv-loop μ-loop
-slice-aggregate-commit-2 c = sym (c .before .before .before .before .before .loop2 .inv .1)
-
-part-commit-end : tie.Need-part-commit-end Inv-loop2 μ-loop2 Inv-loop μ-loop
-part-commit-end c =
-    let at-loop2 = c .before .before .before .before .before .before in
-    let h = listed-fits (at-loop2 .loop2 .inv .3) in omega (arith, at-loop2 .loop2 .inv .2)
-
-add-commit : tie.Need-add-commit Inv-loop2 μ-loop2 Inv-loop μ-loop
-add-commit c =
-    let at-loop = c .before .before .before .before .before .before .before .before .before in
-    let start = at-loop .before .before .before .before .before .before .before .before .before .before in
-    omega (arith, bits-few (at-loop .loop .seen) (start .args .ends .n * 64))
-
-slice-aggregate-commit-3 : tie.Need-slice-aggregate-commit-3 Inv-loop2 μ-loop2 Inv-loop μ-loop
-slice-aggregate-commit-3 c = sym (c .before .before .before .before .before .before .before .before .before .before .loop .inv .4)
-
-slice-aggregate-commit-4 : tie.Need-slice-aggregate-commit-4 Inv-loop2 μ-loop2 Inv-loop μ-loop
-slice-aggregate-commit-4 c = sym (c .before .before .before .before .before .before .before .before .before .before .before .loop .inv .5)
-
-commit-requires : tie.Need-commit-requires Inv-loop2 μ-loop2 Inv-loop μ-loop
-commit-requires c κs =
-    let after-loop2 = c .before .before .before .before .before .before .before .before in
-    let at-loop = after-loop2 .before .before .before in
-    let after-stamp = at-loop .before .before .before in
-    let start = after-stamp .before .before .before .before .before .before .before in
-    let k : length (after-stamp .stamp .last .0) ≡ length (start .args .work .now) = after-stamp .stamp .kept .0 in
-    let p = start .pre in
-    let i = at-loop .loop .inv in
-    let l = after-loop2 .before .loop2 .inv in
-    let h = listed-fits (l .3) in
-    (l .1, i .4, i .5, omega (arith, part-long after-loop2), (start .args .ends .n, p .1, omega arith, omega arith, listed-part after-loop2))
-
--- the level is not empty, so that more states are seen
-grows : (c : tie.After-commit Inv-loop2 μ-loop2 Inv-loop μ-loop)
-    → let at-loop = c .before .before .before .before .before .before .before .before .before .before .before .before in
-    let start = at-loop .before .before .before .before .before .before .before .before .before .before in
-    onesBelow (bitAt (at-loop .loop .seen)) (start .args .ends .n * 64) < onesBelow (bitAt (c .commit .last .1 .0)) (start .args .ends .n * 64)
-grows c =
-    let else1 = c .before .before .before .before .before .before .before .before in
-    let at-loop = else1 .before .before .before .before in
-    let i = at-loop .loop .inv in
-    let queued = else1 .before .before .loop2 .inv .3 in
-    let some = else1 .if1 .left in
-    let state = queued .some 0 (omega arith) in
-    level-falls (made (else1 .before) (i .9) (i .10)) (c .commit .ensures .2 _ (listed-part (else1 .before)))
-    (queued .small 0 (omega arith)) (state .1) (state .2)
-
-add-level : tie.Need-add-level Inv-loop2 μ-loop2 Inv-loop μ-loop
-add-level c =
-    let earlier = c .before .before .before .before .before .before .before .before .before in
-    let at-loop = earlier .before .before .before .before .before .before .before .before .before in
-    let start = at-loop .before .before .before .before .before .before .before .before .before .before in
-    let h = start .pre .1 in
-    let i = at-loop .loop .inv .7 in
-    omega (arith, bits-few (at-loop .loop .seen) (start .args .ends .n * 64))
-
-loop-less : tie.Need-loop-less Inv-loop2 μ-loop2 Inv-loop μ-loop
-loop-less c =
-    let after-commit = c .before .before .before .before .before .before in
-    let earlier = after-commit .before .before .before .before .before .before .before .before .before .before .before in
-    let start = earlier .before .before .before .before .before .before .before .before .before .before .before in
-    omega (arith, grows after-commit, bits-few (after-commit .commit .last .1 .0) (start .args .ends .n * 64))
-
-loop-again : tie.Need-loop-again Inv-loop2 μ-loop2 Inv-loop μ-loop
-loop-again c =
-    let after-commit = c .before .before .before .before .before .before in
-    let after-loop2 = after-commit .before .before .before .before .before .before .before .before .before in
-    let at-loop = after-loop2 .before .before .before in
-    let l = at-loop .loop in
-    let m = after-loop2 .before .loop2 in
-    let done = after-commit .commit in
-    let two : l .level + 2 ≡ suc (suc (l .level)) = omega arith in
-    let long : length (take (m .queued - 0) (m .list)) ≡ m .queued = (let e = part-long after-loop2 in omega arith) in (
-      done .kept .0 ∙ l .inv .0,
-      done .kept .1 .0 ∙ l .inv .1,
-      done .kept .1 .1 .0 ∙ m .inv .1,
-      m .inv .2,
-      done .kept .1 .1 .1 .1 .1 .0 ∙ l .inv .4,
-      done .kept .1 .1 .1 .1 .1 .1 .0 ∙ l .inv .5,
-      listed-fits (m .inv .3),
-      omega (arith, grows after-commit),
-      done .ensures .0,
-      m .next,
-      subst (λ (k : ℕ). Frontier (done .last .1 .1 .1 .1 .1 .0) (done .last .1 .1 .1 .1 .1 .1 .0) k (m .next)) long (done .ensures .1),
-      λ g M fs S. rw add-one
-          (level-next S (l .inv .11 g M fs S) (made after-loop2 (l .inv .9) (l .inv .10)) (rw two at (done .ensures .2 _ (listed-part after-loop2)))),
-    )
-
-slice-read-t72 : tie.Need-slice-read-t72 Inv-loop2 μ-loop2 Inv-loop μ-loop
-slice-read-t72 c =
-    let after-stamp = c .before .before .before .before .before in
-    let start = after-stamp .before .before .before .before .before .before .before in
-    let k : length (after-stamp .stamp .last .0) ≡ length (start .args .work .now) = after-stamp .stamp .kept .0 in
-    let i = c .before .before .loop .inv .0 in
-    omega arith
-
-same-length-2 : tie.Need-same-length-2 Inv-loop2 μ-loop2 Inv-loop μ-loop
-same-length-2 c = c .before .before .loop .inv .0 ∙ c .before .before .before .before .before .stamp .kept .0
-
-returns-2 : tie.Need-returns-2 Inv-loop2 μ-loop2 Inv-loop μ-loop
-unfolding numberAt
-returns-2 c =
-    let start = c .before .before .before .before .before .before .before .before .before .before .before .before in
-    let s = start .args .ends in
-    let l = c .before .before .loop in
-    let z : s .from * 64 + 0 ≡ s .from * 64 = omega arith in
-    λ g M fs S. rw z at (sought (s .from) (start .pre .4) (l .inv .11 g M fs S) (rw (digit-zero (getD (l .seen) (s .from) 0)) (let h =
-    c .before .loop-test .left in omega arith)))
+backward-by-requires-2 : tie.Need-backward-by-requires-2
+backward-by-requires-2 c κs =
+    let p = c .before .before .before .before .before .before .before .before .before .before .before .before .pre in
+    let X = c .before .before .before .before .index-by-reached2 in
+    let long : length (X .last .1 .0) ≡ 9216 = X .kept .1 .0 ∙ length-replicate {A = ℕ} 9216 0 in
+    (p .0, p .1, p .2, p .3, p .4, p .5, p .6, omega (arith, long, p .0), X .ensures, p .7, p .8)
 
 pub backward-spec : {M : Type 1} → statement M
 backward-spec =
     tie.close
     (tie.spec
-    Inv-loop2
-    μ-loop2
-    Inv-loop
-    μ-loop
-    (λ c κs. search needs) (λ c κs. omega arith) (λ c. omega arith) (λ c. omega arith) (λ c. omega arith)
-    loop-holds
-    (λ c. omega arith) (λ c. omega arith)
-    loop2-holds
-    (λ c. omega arith) (λ c. omega arith)
-    cast-at
-    (λ c. omega arith) (λ c. omega arith) (λ c. search needs)
-    slice-aggregate-into-2
-    slice-aggregate-into-3
-    slice-aggregate-into-4
-    into-requires
-    (λ c. omega arith) (λ c. omega arith)
-    loop2-again
-    same-length
-    returns
-    slice-aggregate-commit
-    slice-aggregate-commit-2
-    (λ c. omega arith) (λ c. omega arith)
-    part-commit-end
-    add-commit
-    slice-aggregate-commit-3
-    slice-aggregate-commit-4
-    commit-requires
-    add-level
-    loop-less
-    loop-again
-    (λ c. omega arith) (λ c. omega arith)
-    slice-read-t72
-    same-length-2
-    returns-2)
+    (λ c. search needs)
+    index-by-reached-requires
+    (λ c. search needs)
+    backward-by-requires
+    (λ c. search needs) (λ c. search needs) (λ c. search needs) (λ c. search needs)
+    index-by-reached-requires-2
+    (λ c. search needs)
+    backward-by-requires-2
+    (λ c. search needs) (λ c. search needs) (λ c. search needs))

@@ -55,6 +55,11 @@ mul-next c = omega (arith, inside (c .before .before .before .before .before .be
 slice-write-next : tie.Need-slice-write-next Inv-loop μ-loop
 slice-write-next c = omega (arith, inside (c .before .before .before .before .before .before .before))
 
+cast-records : tie.Need-cast-records Inv-loop μ-loop
+cast-records c =
+    let at-loop = c .before .before .before .before .before .before .before .before .before in
+    omega (arith, c .shared-slice-known3 .given (at-loop .loop .i) .fits)
+
 loop-again : tie.Need-loop-again Inv-loop μ-loop
 loop-again c =
     let after-stamp = c .before .before .before .before in
@@ -114,7 +119,9 @@ commit-spec =
     slice-write-seen
     mul-next
     slice-write-next
-    (λ c. omega arith) (λ c. omega arith) (λ c. omega arith) (λ c. omega arith) (λ c. omega arith) (λ c. omega arith) (λ c. omega arith)
+    (λ c. omega arith) (λ c. omega arith)
+    cast-records
+    (λ c. omega arith) (λ c. omega arith) (λ c. omega arith) (λ c. omega arith) (λ c. omega arith)
     (λ c. omega arith)
     loop-again
     same-length

@@ -33,7 +33,7 @@ stands c = (omega arith, c .before .loop .inv .2 .0)
 first-arc-requires : tie.Need-first-arc-requires Inv-loop μ-loop
 first-arc-requires c κs =
     let start = c .before .before .before .before .before .before .before in
-    (start .pre .1, start .pre .4)
+    omega (arith, start .pre .1, start .pre .4)
 
 loop-holds : tie.Need-loop-holds Inv-loop μ-loop
 loop-holds c =
@@ -56,7 +56,7 @@ next-arc-requires : tie.Need-next-arc-requires Inv-loop μ-loop
 next-arc-requires c κs =
     let in-loop = c .before .before .before .before .before .before .before .before .before .before .before .before in
     let start = in-loop .before .before .before .before .before .before .before .before .before .before in
-    (start .pre .1, omega (arith, stands in-loop))
+    (omega (arith, stands in-loop, start .pre .1), omega (arith, stands in-loop))
 
 loop-less : tie.Need-loop-less Inv-loop μ-loop
 loop-less c =

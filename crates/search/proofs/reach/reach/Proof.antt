@@ -26,21 +26,24 @@ abbrev μ-loop : tie.MeasureT-loop
 
 -- the record last queued
 inside : (c : tie.In-loop Inv-loop μ-loop)
-    → let start = c .before .before .before .before .before .before .before .before .before .before .before in
+    → let start = c .before .before .before .before .before .before .before .before .before .before .before .before .before in
     getD (c .before .loop .list) (c .before .loop .count - 1) 0 < start .args .n
 inside c = c .before .loop .inv .3 .small (c .before .loop .count - 1) (omega arith)
 
 within : (c : tie.In-loop Inv-loop μ-loop) → getD (c .before .loop .list) (c .before .loop .count - 1) 0 < length (c .before .loop .pending)
 within c = omega (arith, inside c, c .before .loop .inv .1)
 
+index-by-left-requires : tie.Need-index-by-left-requires Inv-loop μ-loop
+index-by-left-requires c κs = let p = c .before .before .before .before .pre in (p .0, omega (arith, length-replicate {A = ℕ} 9216 0, p .0), zeros-at 9216)
+
 add-states-requires : tie.Need-add-states-requires Inv-loop μ-loop
 add-states-requires c κs =
-    let p = c .before .before .before .before .before .before .pre in
+    let p = c .before .before .before .before .before .before .before .before .pre in
     (p .3, length-replicate {A = ℕ} 1024 0, length-replicate {A = ℕ} 1024 0, omega arith, listed-none _ _ _ (zeros-at 1024))
 
 loop-holds : tie.Need-loop-holds Inv-loop μ-loop
 loop-holds c =
-    let start = c .before .before .before .before .before .before .before .before .before in
+    let start = c .before .before .before .before .before .before .before .before .before .before .before in
     let s = start .args in
     let A = c .before .before .add-states in (
       (let z : length (set {A = ℕ} (replicate 1024 0) (s .from) 1) ≡ 1024 = simp length-set (length-replicate {A = ℕ} 1024 0) in z),
@@ -84,16 +87,17 @@ slice-aggregate-out-of-4 c = sym (c .before .before .before .before .before .bef
 
 out-of-requires : tie.Need-out-of-requires Inv-loop μ-loop
 out-of-requires c κs =
+    let at-loop = c .before .before .before .before .before .before in
+    let after-index-by-left = at-loop .before .before .before .before .before .before .before in
+    let start = after-index-by-left .before .before .before .before .before in
     let in-loop = c .before .before .before .before .before in
-    let after-index-by-left = in-loop .before .before .before .before .before .before .before in
-    let start = after-index-by-left .before .before .before .before in
     let p = start .pre in
-    let l = in-loop .before .loop in
+    let l = at-loop .loop in
     let X = after-index-by-left .index-by-left in
-    let long : length (X .result) ≡ 9216 = search needs in
+    let long : length (X .last .1 .0) ≡ 9216 = X .kept .1 .0 ∙ length-replicate {A = ℕ} 9216 0 in
     let h = inside in-loop in (
       p .0,
-      long,
+      omega (arith, long, p .0),
       p .2,
       l .inv .0,
       length-set {A = ℕ} (l .pending) (getD (l .list) (l .count - 1) 0) 0 ∙ l .inv .1,
@@ -106,19 +110,21 @@ out-of-requires c κs =
 
 loop-less : tie.Need-loop-less Inv-loop μ-loop
 loop-less c =
+    let at-loop = c .before .before .before .before .before .before .before .before .before .before in
     let after-out-of = c .before .before .before in
-    let in-loop = after-out-of .before .before .before .before .before .before in
-    let start = in-loop .before .before .before .before .before .before .before .before .before .before .before in
-    let l = in-loop .before .loop in
+    let in-loop = c .before .before .before .before .before .before .before .before .before in
+    let start = at-loop .before .before .before .before .before .before .before .before .before .before .before .before in
+    let l = at-loop .loop in
     let a = fewer-pop (l .inv .3) (omega arith) (within in-loop) (l .seen) (l .inv .4 .waits) in
     let b = ones-most _ _ (start .args .n * 64) (after-out-of .out-of .ensures .1) in
     omega arith
 
 loop-again : tie.Need-loop-again Inv-loop μ-loop
 loop-again c =
+    let at-loop = c .before .before .before .before .before .before .before .before .before .before in
     let after-out-of = c .before .before .before in
-    let after-spread = after-out-of .before .before .before .before .before in
-    let l = after-spread .before .before .loop in
+    let after-spread = c .before .before .before .before .before .before .before .before in
+    let l = at-loop .loop in
     let P = after-out-of .out-of in (
       P .kept .1 .1 .1 .0 ∙ l .inv .0,
       P .kept .1 .1 .1 .1 .0 ∙ length-set {A = ℕ} (l .pending) (getD (l .list) (l .count - 1) 0) 0 ∙ l .inv .1,
@@ -136,7 +142,9 @@ reach-spec =
     (tie.spec
     Inv-loop
     μ-loop
-    (λ c κs. search needs) (λ c. omega arith) (λ c. omega arith) (λ c. search needs) (λ c. search needs)
+    (λ c. search needs)
+    index-by-left-requires
+    (λ c. omega arith) (λ c. omega arith) (λ c. search needs) (λ c. search needs)
     add-states-requires
     loop-holds
     (λ c. omega arith)
