@@ -62,6 +62,19 @@ pub fn copy_u64(from: &[u64], to: &mut [u64], at: usize) -> usize
     at + i
 }
 
+// Words of 32 bits, likewise.
+pub fn copy_u32(from: &[u32], to: &mut [u32], at: usize) -> usize
+    requires { ⌜ at + length (now from) ≤ length (now to) ⌝ }
+    ensures { λ r. ⌜ Wrote at (now (from .entry)) (now (to .entry)) (now (to .exit)) r ⌝ }
+{
+    let mut i = 0;
+    while i < from.len() {
+        to[at + i] = from[i];
+        i += 1;
+    }
+    at + i
+}
+
 // A word written at place t, if the list is that long.
 pub fn put_u32(out: &mut [u32], t: usize, v: u32)
     ensures { λ _. ⌜ Grown t (t + 1) (v ∷ []) (now (out .entry)) (now (out .exit)) ⌝ }

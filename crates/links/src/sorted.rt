@@ -35,7 +35,7 @@ pub fn stands(words: &[u32], count: usize, at: usize, x: u32) -> bool
 }
 
 // x at the place at, and what stood there and after it one place on.
-pub fn put(a: &mut [u32; book::MAX_LINKS], count: usize, at: usize, x: u32)
+pub fn put(a: &mut [u32], count: usize, at: usize, x: u32)
     requires { ⌜ (at ≤ count) × (count < maxLinks) × (length (now a) ≡ maxLinks) ⌝ }
     ensures { λ r. ⌜ take (count + 1) (now (a .exit)) ≡ putAt at x (take count (now (a .entry))) ⌝ }
 {
@@ -51,7 +51,7 @@ pub fn put(a: &mut [u32; book::MAX_LINKS], count: usize, at: usize, x: u32)
 }
 
 // What stands after the place at, one place down.
-pub fn cut(a: &mut [u32; book::MAX_LINKS], count: usize, at: usize)
+pub fn cut(a: &mut [u32], count: usize, at: usize)
     requires { ⌜ (at < count) × (count ≤ maxLinks) × (length (now a) ≡ maxLinks) ⌝ }
     ensures { λ r. ⌜ take (count - 1) (now (a .exit)) ≡ cutAt at (take count (now (a .entry))) ⌝ }
 {

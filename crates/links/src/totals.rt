@@ -11,7 +11,7 @@ ghost use Rattle.links.specs.Totals.{Raised, Lowered};
 const MOST: u32 = book::MAX_LINKS as u32;
 
 // One link more of the label of a link's word.
-pub fn raise_total(totals: &mut [u32; book::LABELS], x: u32)
+pub fn raise_total(totals: &mut [u32], x: u32)
     requires { ⌜ length (now totals) ≡ labels ⌝ }
     ensures { λ _. ⌜ Raised (x / labelUnit) (now (totals .entry)) (now (totals .exit)) ⌝ }
 {
@@ -26,7 +26,7 @@ pub fn raise_total(totals: &mut [u32; book::LABELS], x: u32)
 }
 
 // One link less of the label of a link's word.
-pub fn lower_total(totals: &mut [u32; book::LABELS], x: u32)
+pub fn lower_total(totals: &mut [u32], x: u32)
     requires { ⌜ length (now totals) ≡ labels ⌝ }
     ensures { λ _. ⌜ Lowered (x / labelUnit) (now (totals .entry)) (now (totals .exit)) ⌝ }
 {

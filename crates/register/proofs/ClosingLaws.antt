@@ -50,7 +50,7 @@ use Rattle.register.specs.Closing.{inUse, newOf, renamedWord, Ranked, Sm
 use Rattle.register.specs.declared.Register.{Register}
 use Rattle.register.specs.declared.Answer.the-variants.{Done, Refused}
 use Rattle.register.proofs.ReplayLaws.{set-next}
-use Rattle.register.proofs.StepLaws.{caused-as, done-refused, refuse-foreign}
+use Rattle.register.proofs.StepLaws.{caused-as, done-refused, refused-done, refuse-foreign}
 
 -- ---- ranks
 pub ranked-more : (ms rs : List ℕ) (i k : ℕ) → i + 1 < length rs → k ≡ rank (inUse ms) (suc i) → ((x : ℕ) → x ≤ i → newOf rs x ≡ rank (inUse ms) x)
@@ -219,6 +219,7 @@ module _ (self : Register) (room k : ℕ) (inside : InRange self) (z : Caused (s
     caused = caused-as z;
     refused = λ _. refl;
     foreign = λ o. absurd (o inside);
+    formed = λ q. absurd (refused-done q);
     answers = λ b h. ap answerOf (sym (told b h));
     follows = λ b h. rw (told b h) h;
   }
@@ -234,7 +235,7 @@ closes-refused self k list inside z told = record {
   steps = refuse-close self (length list) k inside z told;
   refused = λ _. refl;
   past = refl;
-  formed = λ e. absurd (done-refused (sym e));
+  formed = λ e. absurd (refused-done e);
   given = λ b h. ap (λ (g : List ℕ). over g list) (sym (given-none self (length list) k inside z told b h));
 }
 
@@ -243,7 +244,7 @@ closes-foreign self list none = record {
   steps = refuse-foreign self (close (length list)) none;
   refused = λ _. refl;
   past = refl;
-  formed = λ e. absurd (done-refused (sym e));
+  formed = λ e. absurd (refused-done e);
   given = λ b h. absurd (none (h .ranged));
 }
 
@@ -421,12 +422,17 @@ module _ (self r : Register) (old new : List ℕ) (inside : InRange self) (some 
   free : (b : Book) → Represents self b → closeAnswer (b .n) (b .sheet) (length old) ≡ 0
   free b h = close-free h (length old) some room
 
+  -- the marks are free or locks
+  marks-right : Marked (r .marks)
+  marks-right y = ⊎-elim (λ p. omega (arith, p)) (λ p. omega (arith, p .0)) (c .marks .2 .from y)
+
   accept-close : Steps self (close (length old)) (record { register = r; answer = Done })
   unfolding answer next
   accept-close = record {
     caused = λ k q. absurd (done-refused q);
     refused = λ x. absurd (x refl);
     foreign = λ o. absurd (o inside);
+    formed = λ _. (closed-ranged self r inside c, λ _. marks-right);
     answers = λ b h. ap answerOf (sym (free b h));
     follows = λ b h. subst (λ (k : ℕ). Represents r (closed k b)) (sym (free b h)) (closed-represents h c);
   }
@@ -437,10 +443,6 @@ module _ (self r : Register) (old new : List ℕ) (inside : InRange self) (some 
       ap (λ (k : ℕ). closeGiven k b) (free b h)
       ∙ numbers-same (used (b .n) (b .sheet)) (inUse (self .marks)) (b .n) (used-marked h) (b .n) (omega arith)
       ∙ ap (newNumbers (inUse (self .marks))) (sym (h .size))
-
-  -- the marks are free or locks
-  marks-right : Marked (r .marks)
-  marks-right y = ⊎-elim (λ p. omega (arith, p)) (λ p. omega (arith, p .0)) (c .marks .2 .from y)
 
   pub closes-accepted : Closes self old new (record { register = r; answer = Done })
   closes-accepted = record {

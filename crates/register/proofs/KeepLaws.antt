@@ -1,33 +1,35 @@
--- Laws of a register kept as words: `copy`, the words of marks, what is read, what `load` reads and what `store` writes.
+-- Laws of a register kept as words: the words of marks, what is read, what `load` reads, what `store` writes and what `edit_in` does.
 --   tested-not, tested  a test that fails, and one that passes
 --   of-others           what is read of words that were found to be no register's
 --   fitted-drop         the words past as many as fit
 --   front-shown         the first of the words of a part
---   copied-all, copied-more, copied-none, copied-over
---                       `copy`: all, one word more, no room, a whole array
+--   part-fits, part-read
+--                       a part written over an array of its length
 --   marked-all          words that are each one of the three marks
 --   formed-by, load-refused, load-made
 --                       `load`: whether the words have the form; refused, or the register whose words they are
 --   stored, store-refused
 --                       `store`: the words of the register, or the space as it was
+--   edited-in           `edit_in`: the words of the register that was edited
 -- Assumes nothing.
 use mathlib.Core.Path.{_≡_, refl, sym, ap, _∙_}
-use mathlib.Core.List.{List, [], _++_, append-nil}
+use mathlib.Core.List.{List, [], _++_, append-nil, append-assoc}
 use mathlib.Core.Bool.{Bool, true, false, false≢true, true≢false}
 use Prim.Native.Nat.{ℕ, _+_, _-_, _≤_, _<_}
 use native.Mathlib.Decide.{decLt}
 use native.Mathlib.Omega.{arith}
-use native.Mathlib.Numerals.{add-one}
-use lib.ListN.{length, take, drop, set, getD, length-append, drop-of-length-le, List·getD-eq-default}
-use lib.Seq.{take-all, take-at, take-take, drop-at, drop-drop, take-length, length-take-le, paste, paste-suc}
-use Rattle.book.specs.Causes.{number, labels, maxRecords, maxLinks, maxHeld}
+use lib.ListN.{length, take, drop, getD, length-append, length-take, drop-of-length-le, List·getD-eq-default}
+use lib.Seq.{take-all, take-at, take-take, take-append-add, drop-at, drop-drop, length-take-le}
+use Rattle.book.specs.Causes.{number, maxRecords, maxLinks}
 use Rattle.book.specs.Book.{fresh}
+use Rattle.answers.specs.Written.{written, Wrote}
+use Rattle.answers.specs.WrittenLaws.{length-written}
 use Rattle.register.specs.Counters.{Ranged, InRange}
 use Rattle.register.specs.Representation.{Represents}
 use Rattle.register.specs.Marks.{freeMark, withdrawnMark, Marked}
-use Rattle.register.specs.Inner.{KeepsOne, Tested}
-use Rattle.register.specs.Words.{stateWords, linksAt, ringAt, marksAt, totalsAt, numbersOf, stateOf, Keeps, OfWords, Copies, Loads, Stores}
-use Rattle.register.specs.WordLaws.{of-foreign, formed-keeps, keeps-formed}
+use Rattle.register.specs.Inner.{AsLong, KeepsOne, Tested}
+use Rattle.register.specs.Words.{stateWords, linksAt, ringAt, marksAt, totalsAt, numbersOf, stateOf, Keeps, OfWords, Loads, Stores}
+use Rattle.register.specs.WordLaws.{of-foreign, part-long, formed-keeps, keeps-formed}
 use Rattle.register.specs.declared.Register.{Register}
 use Rattle.register.specs.declared.Answer.the-variants.{Done, Refused}
 
@@ -59,27 +61,17 @@ pub front-shown : (ws : List ℕ) (at most : ℕ) {out l : List ℕ} {c n : ℕ}
 front-shown ws at most {n = n} e q h s =
     e ∙ ap (λ (k : ℕ). take k (drop at ws)) q ∙ sym (take-take n most (drop at ws) h) ∙ ap (take n) s
 
--- ---- copy
-pub copied-all : (xs : List ℕ) (at : ℕ) (before after : List ℕ) → at + length xs ≤ length before
-    → after ≡ paste before at xs (length xs) → Copies xs at before after true
-copied-all xs at before after h e = record {
-  fits = λ _. (refl, e ∙ ap (λ (t : List ℕ). take at before ++ t ++ drop (at + length xs) before) (take-length xs));
-  short = λ l. absurd (omega arith);
-}
+-- ---- a part read out
+pub part-fits : (ws : List ℕ) (at k : ℕ) → 0 + length (take k (drop at ws)) ≤ k
+part-fits ws at k = omega (arith, length-take k (drop at ws))
 
-pub copied-more : (xs : List ℕ) (at : ℕ) (before now : List ℕ) (i : ℕ) → now ≡ paste before at xs i → i < length xs → at + i < length before
-    → set now (at + i) (getD xs i 0) ≡ paste before at xs (i + 1)
-copied-more xs at before now i e l h =
-    ap (λ (t : List ℕ). set t (at + i) (getD xs i 0)) e ∙ paste-suc before at xs i 0 h l ∙ ap (paste before at xs) (sym (add-one i))
-
-pub copied-none : (xs : List ℕ) (at : ℕ) (before : List ℕ) → length before < at + length xs → Copies xs at before before false
-copied-none xs at before h = record { fits = λ l. absurd (omega arith); short = λ _. (refl, refl) }
-
--- a whole array
-pub copied-over : (xs before after : List ℕ) (ok : Bool) → length xs ≡ length before → Copies xs 0 before after ok → after ≡ xs
-copied-over xs before after ok l c =
-    let e = c .fits (omega arith) .1 in
-    e ∙ ap (λ (t : List ℕ). xs ++ t) (drop-of-length-le before {i = 0 + length xs} (omega arith)) ∙ append-nil xs
+pub part-read : (ws : List ℕ) (at k : ℕ) {before after : List ℕ} {q : ℕ} → at + k ≤ length ws → length before ≡ k → Wrote 0 (take k (drop at ws)) before after q
+    → after ≡ take k (drop at ws)
+unfolding written
+part-read ws at k {before} h e c =
+    let xs = take k (drop at ws) in
+    let past : drop (0 + length xs) before ≡ [] = drop-of-length-le before {i = 0 + length xs} (omega (arith, e, part-long ws at k h)) in
+    c .contents ∙ ap (λ (t : List ℕ). xs ++ t) past ∙ append-nil xs
 
 -- ---- marks
 pub marked-all : (ms : List ℕ) → ((j : ℕ) → j < length ms → getD ms j freeMark ≤ withdrawnMark) → Marked ms
@@ -109,58 +101,91 @@ pub load-made : {ws : List ℕ} {r : Register} → Keeps ws r → Loads ws (reco
 load-made k = record { loaded = λ _. k; refused = λ n. absurd (n refl) }
 
 -- ---- store
--- a list whose front is known, after more is copied behind that front
+-- a list whose front is known, after more is written behind that front
 behind : (front xs before after : List ℕ) (at end : ℕ) → take at before ≡ front → length front ≡ at → at + length xs ≡ end
-    → after ≡ take at before ++ xs ++ drop (at + length xs) before → take end after ≡ front ++ xs
+    → after ≡ written at xs before → take end after ≡ front ++ xs
+unfolding written
 behind front xs before after at end f l e c =
-    ap (take end) (c ∙ ap (λ (t : List ℕ). t ++ xs ++ drop (at + length xs) before) f)
+    ap (take end) (c ∙ ap (λ (t : List ℕ). t ++ (xs ++ drop (at + length xs) before)) f ∙ sym (append-assoc front xs (drop (at + length xs) before)))
     ∙ take-at (front ++ xs) (drop (at + length xs) before) end (length-append front xs ∙ omega arith)
 
--- the words past what is copied
-past : (xs before after : List ℕ) (at k : ℕ) → at + length xs ≤ k → k ≤ length before
-    → after ≡ take at before ++ xs ++ drop (at + length xs) before → drop k after ≡ drop k before
+-- the words past what is written
+past : (xs before after : List ℕ) (at k : ℕ) → at + length xs ≤ k → k ≤ length before → after ≡ written at xs before → drop k after ≡ drop k before
+unfolding written
 past xs before after at k h l c =
     let m = at + length xs in
     let e : m + (k - m) ≡ k = omega arith in
     let p : length (take at before ++ xs) ≡ m = length-append (take at before) xs ∙ omega (arith, length-take-le at before (omega arith)) in
     ap (λ (i : ℕ). drop i after) (sym e)
     ∙ sym (drop-drop (k - m) m after)
-    ∙ ap (drop (k - m)) (ap (drop m) c ∙ drop-at (take at before ++ xs) (drop m before) m p)
+    ∙ ap (drop (k - m)) (ap (drop m) (c ∙ sym (append-assoc (take at before) xs (drop m before))) ∙ drop-at (take at before ++ xs) (drop m before) m p)
     ∙ drop-drop (k - m) m before
     ∙ ap (λ (i : ℕ). drop i before) e
 
-pub stored : (r : Register) (w₀ w₁ w₂ w₃ w₄ w₅ : List ℕ) → InRange r → Marked (r .marks)
-    → length (r .links) ≡ maxLinks → length (r .ring) ≡ maxHeld → length (r .marks) ≡ maxRecords → length (r .totals) ≡ labels
-    → stateWords ≤ length w₀ → stateWords ≤ length w₁ → stateWords ≤ length w₂ → stateWords ≤ length w₃ → stateWords ≤ length w₄
-    → w₁ ≡ take 0 w₀ ++ numbersOf r ++ drop (0 + length (numbersOf r)) w₀
-    → w₂ ≡ take linksAt w₁ ++ r .links ++ drop (linksAt + length (r .links)) w₁
-    → w₃ ≡ take ringAt w₂ ++ r .ring ++ drop (ringAt + length (r .ring)) w₂
-    → w₄ ≡ take marksAt w₃ ++ r .marks ++ drop (marksAt + length (r .marks)) w₃
-    → w₅ ≡ take totalsAt w₄ ++ r .totals ++ drop (totalsAt + length (r .totals)) w₄
-    → Stores r w₀ w₅ true
-stored r w₀ w₁ w₂ w₃ w₄ w₅ g v ls rs ks ts l₀ l₁ l₂ l₃ l₄ a b c d e =
-    let e₁ : take linksAt w₁ ≡ numbersOf r = behind [] (numbersOf r) w₀ w₁ 0 linksAt refl refl refl a in
-    let f₂ : length (numbersOf r ++ r .links) ≡ ringAt = length-append (numbersOf r) (r .links) ∙ omega (arith, ls) in
-    let e₂ : take ringAt w₂ ≡ numbersOf r ++ r .links = behind (numbersOf r) (r .links) w₁ w₂ linksAt ringAt e₁ refl (omega (arith, ls)) b in
-    let f₃ : length (numbersOf r ++ r .links ++ r .ring) ≡ marksAt = length-append (numbersOf r ++ r .links) (r .ring) ∙ omega (arith, f₂, rs) in
-    let e₃ : take marksAt w₃ ≡ numbersOf r ++ r .links ++ r .ring =
-    behind (numbersOf r ++ r .links) (r .ring) w₂ w₃ ringAt marksAt e₂ f₂ (omega (arith, rs)) c in
-    let f₄ : length (numbersOf r ++ r .links ++ r .ring ++ r .marks) ≡ totalsAt =
-    length-append (numbersOf r ++ r .links ++ r .ring) (r .marks) ∙ omega (arith, f₃, ks) in
-    let e₄ : take totalsAt w₄ ≡ numbersOf r ++ r .links ++ r .ring ++ r .marks =
-    behind (numbersOf r ++ r .links ++ r .ring) (r .marks) w₃ w₄ marksAt totalsAt e₃ f₃ (omega (arith, ks)) d in
-    let e₅ : take stateWords w₅ ≡ stateOf r =
-    behind (numbersOf r ++ r .links ++ r .ring ++ r .marks) (r .totals) w₄ w₅ totalsAt stateWords e₄ f₄ (omega (arith, ts)) e in
-    let rest : drop stateWords w₅ ≡ drop stateWords w₀ =
-    past (r .totals) w₄ w₅ totalsAt stateWords (omega (arith, ts)) l₄ e
-    ∙ past (r .marks) w₃ w₄ marksAt stateWords (omega (arith, ks)) l₃ d
-    ∙ past (r .ring) w₂ w₃ ringAt stateWords (omega (arith, rs)) l₂ c
-    ∙ past (r .links) w₁ w₂ linksAt stateWords (omega (arith, ls)) l₁ b
-    ∙ past (numbersOf r) w₀ w₁ 0 stateWords (omega arith) l₀ a in
-    record {
-      done = λ _. (record { ranged = g; links = ls; ring = rs; marks = ks; marked = v; totals = ts; words = e₅ }, rest);
-      refused = λ e. absurd (true≢false e);
-    }
+module _ (r : Register) (g : InRange r) (v : Marked (r .marks)) (l : AsLong (r .links) (r .marks) (r .ring) (r .totals)) where
+  -- the ring, the marks and the totals, behind the counters and the links
+  rest : (w₂ w₃ w₄ w₅ : List ℕ) {i j k : ℕ} → stateWords ≤ length w₂ → take ringAt w₂ ≡ numbersOf r ++ r .links
+      → Wrote ringAt (r .ring) w₂ w₃ i → Wrote marksAt (r .marks) w₃ w₄ j → Wrote totalsAt (r .totals) w₄ w₅ k
+      → Keeps w₅ r × (drop stateWords w₅ ≡ drop stateWords w₂)
+  rest w₂ w₃ w₄ w₅ l₂ e₂ a b c =
+      let l₃ : length w₃ ≡ length w₂ = ap length (a .contents) ∙ length-written ringAt (r .ring) w₂ (omega (arith, l₂, l .2)) in
+      let l₄ : length w₄ ≡ length w₃ = ap length (b .contents) ∙ length-written marksAt (r .marks) w₃ (omega (arith, l₂, l₃, l .1)) in
+      let f₂ : length (numbersOf r ++ r .links) ≡ ringAt = length-append (numbersOf r) (r .links) ∙ omega (arith, l .0) in
+      let f₃ : length (numbersOf r ++ r .links ++ r .ring) ≡ marksAt = length-append (numbersOf r ++ r .links) (r .ring) ∙ omega (arith, f₂, l .2) in
+      let f₄ : length (numbersOf r ++ r .links ++ r .ring ++ r .marks) ≡ totalsAt =
+      length-append (numbersOf r ++ r .links ++ r .ring) (r .marks) ∙ omega (arith, f₃, l .1) in
+      let e₃ : take marksAt w₃ ≡ numbersOf r ++ r .links ++ r .ring =
+      behind (numbersOf r ++ r .links) (r .ring) w₂ w₃ ringAt marksAt e₂ f₂ (omega (arith, l .2)) (a .contents) in
+      let e₄ : take totalsAt w₄ ≡ numbersOf r ++ r .links ++ r .ring ++ r .marks =
+      behind (numbersOf r ++ r .links ++ r .ring) (r .marks) w₃ w₄ marksAt totalsAt e₃ f₃ (omega (arith, l .1)) (b .contents) in
+      let e₅ : take stateWords w₅ ≡ stateOf r =
+      behind (numbersOf r ++ r .links ++ r .ring ++ r .marks) (r .totals) w₄ w₅ totalsAt stateWords e₄ f₄ (omega (arith, l .3)) (c .contents) in (
+        record { ranged = g; links = l .0; ring = l .2; marks = l .1; marked = v; totals = l .3; words = e₅ },
+        past (r .totals) w₄ w₅ totalsAt stateWords (omega (arith, l .3)) (omega (arith, l₂, l₃, l₄)) (c .contents)
+            ∙ past (r .marks) w₃ w₄ marksAt stateWords (omega (arith, l .1)) (omega (arith, l₂, l₃)) (b .contents)
+            ∙ past (r .ring) w₂ w₃ ringAt stateWords (omega (arith, l .2)) l₂ (a .contents),
+      )
+
+  pub stored : (w₀ w₁ w₂ w₃ w₄ w₅ : List ℕ) {h i j k m : ℕ} → stateWords ≤ length w₀ → Wrote 0 (numbersOf r) w₀ w₁ h → Wrote linksAt (r .links) w₁ w₂ i
+      → Wrote ringAt (r .ring) w₂ w₃ j → Wrote marksAt (r .marks) w₃ w₄ k → Wrote totalsAt (r .totals) w₄ w₅ m → Stores r w₀ w₅ true
+  stored w₀ w₁ w₂ w₃ w₄ w₅ l₀ a b c d e =
+      let l₁ : length w₁ ≡ length w₀ = ap length (a .contents) ∙ length-written 0 (numbersOf r) w₀ (omega (arith, l₀)) in
+      let l₂ : length w₂ ≡ length w₁ = ap length (b .contents) ∙ length-written linksAt (r .links) w₁ (omega (arith, l₀, l₁, l .0)) in
+      let e₁ : take linksAt w₁ ≡ numbersOf r = behind [] (numbersOf r) w₀ w₁ 0 linksAt refl refl refl (a .contents) in
+      let e₂ : take ringAt w₂ ≡ numbersOf r ++ r .links = behind (numbersOf r) (r .links) w₁ w₂ linksAt ringAt e₁ refl (omega (arith, l .0)) (b .contents) in
+      let s = rest w₂ w₃ w₄ w₅ (omega (arith, l₀, l₁, l₂)) e₂ c d e in
+      record {
+        done = λ _. (
+          s .0,
+          s .1 ∙ past (r .links) w₁ w₂ linksAt stateWords (omega (arith, l .0)) (omega (arith, l₀, l₁)) (b .contents)
+              ∙ past (numbersOf r) w₀ w₁ 0 stateWords (omega arith) l₀ (a .contents),
+        );
+        refused = λ e. absurd (true≢false e);
+      }
+
+  -- ---- edit in place
+  -- the links were written where they stand, and then the rest
+  pub edited-in : (w₀ w₁ w₂ w₃ w₄ w₅ : List ℕ) {h j k m : ℕ} → stateWords ≤ length w₀
+      → w₁ ≡ take linksAt w₀ ++ (r .links ++ drop maxLinks (drop linksAt w₀)) → Wrote 0 (numbersOf r) w₁ w₂ h
+      → Wrote ringAt (r .ring) w₂ w₃ j → Wrote marksAt (r .marks) w₃ w₄ k → Wrote totalsAt (r .totals) w₄ w₅ m
+      → Keeps w₅ r × (drop stateWords w₅ ≡ drop stateWords w₀)
+  unfolding written
+  edited-in w₀ w₁ w₂ w₃ w₄ w₅ l₀ a b c d e =
+      let n : linksAt + maxLinks ≡ linksAt + length (r .links) = omega (arith, l .0) in
+      let a′ : w₁ ≡ written linksAt (r .links) w₀ =
+      a ∙ ap (λ (t : List ℕ). take linksAt w₀ ++ (r .links ++ t)) (drop-drop maxLinks linksAt w₀ ∙ ap (λ (i : ℕ). drop i w₀) n) in
+      let l₁ : length w₁ ≡ length w₀ = ap length a′ ∙ length-written linksAt (r .links) w₀ (omega (arith, l₀, l .0)) in
+      let l₂ : length w₂ ≡ length w₁ = ap length (b .contents) ∙ length-written 0 (numbersOf r) w₁ (omega (arith, l₀, l₁)) in
+      let tail : drop linksAt w₁ ≡ r .links ++ drop maxLinks (drop linksAt w₀) =
+      ap (drop linksAt) a ∙ drop-at (take linksAt w₀) (r .links ++ drop maxLinks (drop linksAt w₀)) linksAt (length-take-le linksAt w₀ (omega (arith, l₀))) in
+      let e₂ : take ringAt w₂ ≡ numbersOf r ++ r .links =
+      ap (take ringAt) (b .contents) ∙ take-append-add (numbersOf r) (drop linksAt w₁) maxLinks
+      ∙ ap (λ (t : List ℕ). numbersOf r ++ t) (ap (take maxLinks) tail ∙ take-at (r .links) (drop maxLinks (drop linksAt w₀)) maxLinks (l .0)) in
+      let s = rest w₂ w₃ w₄ w₅ (omega (arith, l₀, l₁, l₂)) e₂ c d e in (
+        s .0,
+        s .1 ∙ past (numbersOf r) w₁ w₂ 0 stateWords (omega arith) (omega (arith, l₀, l₁)) (b .contents)
+            ∙ past (r .links) w₀ w₁ linksAt stateWords (omega (arith, l .0)) l₀ a′,
+      )
 
 pub store-refused : (r : Register) (ws : List ℕ) → (stateWords ≤ length ws → InRange r → Marked (r .marks) → ⊥) → Stores r ws ws false
 store-refused r ws f = record { done = λ e. absurd (false≢true e); refused = λ _. (refl, f) }

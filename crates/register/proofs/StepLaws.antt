@@ -1,20 +1,21 @@
 -- What each way out of a call has to show: contents that represent no book, a refused edit, an accepted edit, and the two ways of undo.
---   caused-as, done-refused
---                      the number of a refusal is its own; an accepted call is not refused
+--   caused-as, done-refused, refused-done
+--                      the number of a refusal is its own; an accepted call is not refused, nor a refused one accepted
 --   outside, inside, refuse-foreign
 --                      contents out of range represent no book, and every call refuses them with 16
 --   refuse, refused-as
 --                      an edit that is refused, with the number by what the register keeps; the same of what `refused` hands back
---   accept             an edit that is accepted
---   add-cause, remove-cause, add-stop, remove-stop, link-proper
+--   accept, accepted-as
+--                      an edit that is accepted; the same of what `hold` hands back
+--   add-cause, remove-cause, link-stop, link-proper
 --                      the causes against an add and a remove, where those of the link are not there and where they are; with none it is proper
 --   remarkNumber n p r m
 --                      the number of the first cause against a change of the record r's mark
 --   remark-cause, remark-caused, remark-edit
 --                      it is that of the edit; the numbers of the table are those of causes; what is kept and held after it
 --   refuse-undo        undo with none held
---   back-rest, back-marks
---                      what is of no kind takes nothing back; an edit taken back that leaves the links
+--   back-rest, back-marks, taken-changed
+--                      what is of no kind takes nothing back; an edit taken back that leaves the links, and one that is a change of the sheet
 --   Restored self w r  what the register that an accepted undo hands back has to be: the latest word w is taken back
 --   accept-undo        so an undo that is accepted
 --   guard-none         contents that are not in range
@@ -31,14 +32,15 @@ use borrow.Author.Tests.{not-true, not-false}
 use Rattle.book.specs.Basics.{pick, Rises, has}
 use Rattle.book.specs.Causes.{no-record, locked-end, already, missing, full, none-held, not-open, touched-record, withdrawn-record, firstNumber, number, Caused}
 use Rattle.book.specs.Causes.{maxRecords, maxLinks, maxHeld}
-use Rattle.book.specs.Book.{Link, Sheet, Book, Edit, add, remove, Call, edit, undo, editAnswer, edited, turned, undoAnswer, undone, freshAnswer, fresh, answer}
+use Rattle.book.specs.Book.{Link, Sheet, Book, Edit, add, remove, lock, unlock, withdraw, reinstate, Call, edit, undo, editAnswer, edited, turned, undoAnswer}
+use Rattle.book.specs.Book.{undone, freshAnswer, fresh, answer}
 use Rattle.book.specs.Book.{next, touched}
 use Rattle.book.specs.Sheets.{Proper}
 use Rattle.book.specs.BookLaws.{caused-positive, first-proper}
 use Rattle.links.specs.Links.{linkWord, linkOf}
 use Rattle.links.specs.Ascending.{Seam, standsAt}
 use Rattle.links.specs.AscendingLaws.{seam-has}
-use Rattle.register.specs.Marks.{freeMark, withdrawnMark}
+use Rattle.register.specs.Marks.{freeMark, lockMark, withdrawnMark, Marked}
 use Rattle.register.specs.Packed.{Packed, heldWord, takeBackKind, takeBack, Shows, Piled}
 use Rattle.register.specs.Counters.{Ranged, InRange}
 use Rattle.register.specs.Representation.{heldWords, packedOf, Represents}
@@ -49,6 +51,7 @@ use Rattle.register.specs.declared.Register.{Register}
 use Rattle.register.specs.declared.Counters.{Counters}
 use Rattle.register.specs.declared.Edited.{Edited}
 use Rattle.register.specs.declared.Marking.{Marking}
+use Rattle.register.specs.declared.Answer.{Answer}
 use Rattle.register.specs.declared.Answer.the-variants.{Done, Refused}
 use Rattle.register.proofs.TotalLaws.{held-counted, represents-counted, counted-totals}
 use Rattle.register.proofs.SheetLaws.{packedCauses, first-append, first-stop, shows-cause, packedEdit, shows-edited, taken-back}
@@ -61,6 +64,9 @@ caused-as {k} c j e = let z : k ≡ j = cc in subst Caused z c
 -- an accepted call is not refused
 pub done-refused : {k : ℕ} → Done ≡ Refused k → ⊥
 done-refused e = let z : _≡_ {A = ℕ} 0 1 = cc in omega arith
+
+pub refused-done : {k : ℕ} → Refused k ≡ Done → ⊥
+refused-done e = done-refused (sym e)
 
 -- ---- contents out of range, which represent no book
 pub outside : (self : Register) (ok : Bool) → Guarded (self .n) (self .count) (self .top) (self .held) ok → not ok ≡ true → InRange self → ⊥
@@ -75,6 +81,7 @@ refuse-foreign self c none = record {
   caused = caused-as (not-open, refl);
   refused = λ _. refl;
   foreign = λ _. refl;
+  formed = λ q. absurd (refused-done q);
   answers = λ b h. absurd (none (h .ranged));
   follows = λ b h. absurd (none (h .ranged));
 }
@@ -94,6 +101,7 @@ module _ (self : Register) (inside : InRange self) (e : Edit) where
     caused = caused-as z;
     refused = λ _. refl;
     foreign = λ o. absurd (o inside);
+    formed = λ q. absurd (refused-done q);
     answers = λ b h. ap answerOf (sym (told b h));
     follows = λ b h. rw (told b h) h;
   }
@@ -122,6 +130,33 @@ piled-take (suc k) n p (w ∷ ws) (s ∷ ss) h = (h .0, piled-take k n (takeBack
 pub kept-room : {self m : Register} → Kept self m → InRange self → (m .top < maxHeld) × (m .held ≤ maxHeld)
 kept-room k h = (omega (arith, k .top, h .top), omega (arith, k .held, h .held))
 
+-- marks stay marks
+marked-set : (ms : List ℕ) (x m : ℕ) → m ≤ withdrawnMark → Marked ms → Marked (set ms x m)
+marked-set [] x m l h y = h y
+marked-set (k ∷ ms) zero m l h zero = l
+marked-set (k ∷ ms) zero m l h (suc y) = h (suc y)
+marked-set (k ∷ ms) (suc x) m l h zero = h zero
+marked-set (k ∷ ms) (suc x) m l h (suc y) = marked-set ms x m l (λ z. h (suc z)) y
+
+edit-marked : (e : Edit) (p : Packed) → Marked (p .marks) → Marked (packedEdit e p .marks)
+unfolding packedEdit
+edit-marked (add k) p h = h
+edit-marked (remove k) p h = h
+edit-marked (lock r) p h = marked-set (p .marks) r lockMark (omega arith) h
+edit-marked (unlock r) p h = marked-set (p .marks) r freeMark (omega arith) h
+edit-marked (withdraw r) p h = marked-set (p .marks) r withdrawnMark (omega arith) h
+edit-marked (reinstate r) p h = marked-set (p .marks) r freeMark (omega arith) h
+
+back-marked : (k x : ℕ) (p : Packed) → Marked (p .marks) → Marked (takeBackKind k x p .marks)
+unfolding takeBackKind
+back-marked zero x p h = h
+back-marked (suc zero) x p h = h
+back-marked (suc (suc zero)) x p h = marked-set (p .marks) x freeMark (omega arith) h
+back-marked (suc (suc (suc zero))) x p h = marked-set (p .marks) x lockMark (omega arith) h
+back-marked (suc (suc (suc (suc zero)))) x p h = marked-set (p .marks) x freeMark (omega arith) h
+back-marked (suc (suc (suc (suc (suc zero))))) x p h = marked-set (p .marks) x withdrawnMark (omega arith) h
+back-marked (suc (suc (suc (suc (suc (suc k)))))) x p h = h
+
 -- an accepted edit: the sheet is changed, then the edit is held
 module _ (self : Register) (e : Edit) (m r : Register) (inside : InRange self) (long : length (self .marks) ≡ maxRecords)
     (free : (b : Book) → Represents self b → firstNumber (packedCauses (self .n) (packedOf self) e) ≡ 0)
@@ -132,12 +167,16 @@ module _ (self : Register) (e : Edit) (m r : Register) (inside : InRange self) (
   words : heldWords r ≡ take maxHeld (heldWord e ∷ heldWords self)
   words = let k = c .kept in o .words ∙ rw (k .ring, k .top, k .held)
 
+  ranged : InRange r
+  ranged = record { size = omega (arith, o .n, c .kept .n, inside .size); count = omega (arith, o .count, c .kept .count); top = o .top; held = o .few }
+
   pub accept : Steps self (edit e) (record { register = r; answer = Done })
   unfolding answer next turned Piled
   accept = record {
     caused = λ k q. absurd (done-refused q);
     refused = λ x. absurd (x refl);
     foreign = λ o. absurd (o inside);
+    formed = λ _. (ranged, λ m. subst Marked (sym (ap (λ (p : Packed). p .marks) (o .sheet) ∙ c .marks)) (edit-marked e (packedOf self) m));
     answers = λ b h. ap answerOf (sym (none b h));
     follows = λ b h.
         let small = subst (λ (n : ℕ). n ≤ maxRecords) (h .size) (h .ranged .size) in
@@ -145,8 +184,7 @@ module _ (self : Register) (e : Edit) (m r : Register) (inside : InRange self) (
         let shown : Shows (b .n) (packedOf r) (edited e (b .sheet)) = rw s (shows-edited small long (h .sheet) e (none b h)) in
         rw (none b h) (record {
           size = o .n ∙ c .kept .n ∙ h .size;
-          ranged =
-              record { size = omega (arith, o .n, c .kept .n, inside .size); count = omega (arith, o .count, c .kept .count); top = o .top; held = o .few };
+          ranged = ranged;
           sheet = shown;
           totals = counted-totals r (held-counted o (c .counted (h .sheet .links .ascending) (represents-counted h))) shown;
           pile =
@@ -154,6 +192,12 @@ module _ (self : Register) (e : Edit) (m r : Register) (inside : InRange self) (
               (b .sheet ∷ b .pile) (rw (taken-back small (h .sheet) e (none b h)) (h .sheet, h .pile)));
         });
   }
+
+-- the same of what `hold` hands back
+pub accepted-as : {r : Edited} {self : Register} {ls ms hs ts : List ℕ} {c : Call} → r .answer ≡ Done
+    → Steps self c (record { register = registerOf (r .counters) ls ms hs ts; answer = Done }) → Steps self c (outcomeOf r ls ms hs ts)
+accepted-as {r} {self} {ls} {ms} {hs} {ts} {c} e s =
+    subst (λ (a : Answer). Steps self c (record { register = registerOf (r .counters) ls ms hs ts; answer = a })) (sym e) s
 
 -- the causes of an add and of a remove, once those of the ends and the label are not there, by what stands at the place of the link's word
 module _ (self : Register) (k : Link) (x i : ℕ) (word : x ≡ linkWord k) (free : firstNumber (linkCauses (self .n) (self .marks) k) ≡ 0) (held : Bool)
@@ -172,15 +216,11 @@ module _ (self : Register) (k : Link) (x i : ℕ) (word : x ≡ linkWord k) (fre
   unfolding packedCauses firstNumber
   remove-cause = first-append (linkCauses (self .n) (self .marks) k) _ free ∙ rw has-link
 
-pub add-stop : (self : Register) (k : Link) (z : ℕ) → z ≡ firstNumber (linkCauses (self .n) (self .marks) k)
-    → (z ≡ 0 → ⊥) → firstNumber (packedCauses (self .n) (packedOf self) (add k)) ≡ z
+pub link-stop : (self : Register) (k : Link) (z : ℕ) (t : Bool) → z ≡ firstNumber (linkCauses (self .n) (self .marks) k)
+    → (z ≡ 0 → ⊥) → firstNumber (packedCauses (self .n) (packedOf self) (pick t (add k) (remove k))) ≡ z
 unfolding packedCauses
-add-stop self k z e n = first-stop (linkCauses (self .n) (self .marks) k) _ (λ q. n (e ∙ q)) ∙ sym e
-
-pub remove-stop : (self : Register) (k : Link) (z : ℕ) → z ≡ firstNumber (linkCauses (self .n) (self .marks) k)
-    → (z ≡ 0 → ⊥) → firstNumber (packedCauses (self .n) (packedOf self) (remove k)) ≡ z
-unfolding packedCauses
-remove-stop self k z e n = first-stop (linkCauses (self .n) (self .marks) k) _ (λ q. n (e ∙ q)) ∙ sym e
+link-stop self k z true e n = first-stop (linkCauses (self .n) (self .marks) k) _ (λ q. n (e ∙ q)) ∙ sym e
+link-stop self k z false e n = first-stop (linkCauses (self .n) (self .marks) k) _ (λ q. n (e ∙ q)) ∙ sym e
 
 pub link-proper : (n : ℕ) (marks : List ℕ) (k : Link) → firstNumber (linkCauses n marks k) ≡ 0 → Proper n k
 unfolding linkCauses
@@ -245,6 +285,7 @@ module _ (self : Register) (inside : InRange self) (none : heldWords self ≡ []
     caused = caused-as (none-held, refl);
     refused = λ _. refl;
     foreign = λ o. absurd (o inside);
+    formed = λ q. absurd (refused-done q);
     answers = λ b h. rw (empty-pile _ _ (b .pile) (h .pile));
     follows = λ b h. rw (ap (undone b) (empty-pile _ _ (b .pile) (h .pile))) h;
   }
@@ -262,16 +303,27 @@ back-rest (suc (suc (suc (suc (suc (suc k)))))) x p a b c d e f = refl
 
 -- an edit taken back that leaves links and counters, by the marks after it
 pub back-marks : (d : Counters) (ls ms hs ts vs : List ℕ) (k x : ℕ) → d .count ≤ maxLinks
+    → vs ≡ takeBackKind k x (record { links = take (d .count) ls; marks = ms }) .marks
     → (Rises 0 (take (d .count) ls) → record { links = take (d .count) ls; marks = vs } ≡ takeBackKind k x (record { links = take (d .count) ls; marks = ms }))
     → TakenBack (registerOf d ls ms hs ts) k x (registerOf d ls vs hs ts)
-back-marks d ls ms hs ts vs k x h e =
-    record { kept = record { n = refl; ring = refl; top = refl; held = refl; count = h }; sheet = λ r _. e r; counted = λ _ t. t }
+back-marks d ls ms hs ts vs k x h q e =
+    record { kept = record { n = refl; ring = refl; top = refl; held = refl; count = h }; marks = q; sheet = λ r _. e r; counted = λ _ t. t }
+
+-- one that is a change of the sheet
+pub taken-changed : {self r : Register} {p : Packed} {k x : ℕ} → takeBackKind k x (packedOf self) ≡ p → Changed self p r → TakenBack self k x r
+taken-changed {self} {r} e c = record {
+  kept = c .kept;
+  marks = c .marks ∙ ap (λ (q : Packed). q .marks) (sym e);
+  sheet = λ h _. c .sheet h ∙ sym e;
+  counted = c .counted;
+}
 
 -- what the register that an accepted undo hands back has to be: the latest word w is taken back
 pub record Restored (self : Register) (w : ℕ) (r : Register) : Type 0 where
   pub n : r .n ≡ self .n
   pub ranged : InRange r
   pub words : heldWords self ≡ w ∷ heldWords r
+  pub marks : r .marks ≡ takeBack w (packedOf self) .marks
   pub sheet : Rises 0 (packedOf self .links) → length (takeBack w (packedOf self) .links) ≤ maxLinks → packedOf r ≡ takeBack w (packedOf self)
   pub counted : Rises 0 (packedOf self .links) → Tallied self → Tallied r
 
@@ -303,6 +355,7 @@ module _ (self : Register) (inside : InRange self) (w : ℕ) (r : Register) (u :
     caused = λ k q. absurd (done-refused q);
     refused = λ x. absurd (x refl);
     foreign = λ o. absurd (o inside);
+    formed = λ _. (u .ranged, λ m. subst Marked (sym (u .marks)) (back-marked _ _ (packedOf self) m));
     answers = λ b h. ap answerOf (sym (restored b h .0));
     follows = λ b h. restored b h .1;
   }

@@ -4,9 +4,10 @@
 --   callOf c        the book's call of a call: an edit, or an undo
 --   Opens n out     what asking for a fresh register promises
 --   Steps self c out
---                   what a call promises: a refused one has the number of a cause and hands the register back as it was, whatever it contains, and
---                   contents out of range are refused as those of no register; and for every book that the register represents, the answer is the
---                   book's, and the register handed back represents the book after the call
+--                   what a call promises: a refused one has the number of a cause and hands the register back as it was, whatever it contains;
+--                   contents out of range are refused as those of no register; an accepted one hands back counters in range, and marks that are marks
+--                   where they were; and for every book that the register represents, the answer is the book's, and the register handed back
+--                   represents the book after the call
 --   Closes self before after out
 --                   what closing up promises, lent a list that held before and holds after then: what `Steps` says of the call with a list so long; a
 --                   refused one leaves the list as it was, the words past the old n are as they were, and an accepted one hands back counters in range and
@@ -57,6 +58,7 @@ pub record Steps (self : Register) (c : Book·Call) (out : Outcome) : Type 0 whe
   pub caused : (k : ℕ) → out .answer ≡ Refused k → Caused k
   pub refused : (out .answer ≡ Done → ⊥) → out .register ≡ self
   pub foreign : (InRange self → ⊥) → out .answer ≡ answerOf (number not-open)
+  pub formed : out .answer ≡ Done → InRange (out .register) × (Marked (self .marks) → Marked (out .register .marks))
   -- of a register that represents a book
   pub answers : (b : Book) → Represents self b → out .answer ≡ answerOf (answer b c)
   pub follows : (b : Book) → Represents self b → Represents (out .register) (next b c)

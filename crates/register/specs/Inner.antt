@@ -5,8 +5,10 @@
 --                         the register of counters and arrays
 --   outcomeOf e links marks ring totals
 --                         the outcome of an edit of arrays, with what they hold then
+--   AsLong ls ms hs ts    the arrays are as long as a register's
 --   Whole c ls ms hs
 --                         the counters are in range, and the arrays as long as a register's
+--   relinks m             the edit that puts a link in or takes it out
 --   Remarks e r m         the edit e of the record r is the change of its mark m
 --   Holding self w r      what `hold` promises
 --   Kept self r           all but the sheet is as it was
@@ -28,10 +30,10 @@ use mathlib.Core.Bool.{Bool, true, false, _||_}
 use Prim.Native.Nat.{ℕ, _*_, _≤_, _<_}
 use lib.ListN.{length, take, drop, getD, replicate}
 use lib.Dec.{leb}
-use Rattle.book.specs.Basics.{Rises}
+use Rattle.book.specs.Basics.{pick, Rises}
 use Rattle.book.specs.Causes.{Cause, no-record, bad-label, locked-end, already, missing, withdrawn-record, unknown-kind, number, labels, maxRecords, maxLinks}
 use Rattle.book.specs.Causes.{maxHeld}
-use Rattle.book.specs.Book.{Link, Book, Call, Edit, lock, unlock, withdraw, reinstate}
+use Rattle.book.specs.Book.{Link, Book, Call, Edit, add, remove, lock, unlock, withdraw, reinstate}
 use Rattle.links.specs.Links.{wordTotal}
 use Rattle.register.specs.Marks.{freeMark, lockMark, withdrawnMark, hasMark, Marked}
 use Rattle.register.specs.Packed.{Packed, kindUnit, takeBackKind}
@@ -46,6 +48,7 @@ use Rattle.register.specs.declared.Register.{Register}
 use Rattle.register.specs.declared.Counters.{Counters}
 use Rattle.register.specs.declared.Edited.{Edited}
 use Rattle.register.specs.declared.Outcome.{Outcome}
+use Rattle.register.specs.declared.Linking.{Linking}
 use Rattle.register.specs.declared.Marking.{Marking}
 
 unfoldable pub linkCauses : ℕ → List ℕ → Link → List (Cause × Bool)
@@ -66,11 +69,18 @@ registerOf c links marks ring totals =
 abbrev pub outcomeOf : Edited → (links marks ring totals : List ℕ) → Outcome
 outcomeOf e links marks ring totals = record { register = registerOf (e .counters) links marks ring totals; answer = e .answer }
 
+abbrev pub AsLong : (ls ms hs ts : List ℕ) → Type 0
+AsLong ls ms hs ts = (length ls ≡ maxLinks) × (length ms ≡ maxRecords) × (length hs ≡ maxHeld) × (length ts ≡ labels)
+
 pub record Whole (c : Counters) (ls ms hs : List ℕ) : Type 0 where
   pub ranged : Ranged (c .n) (c .count) (c .top) (c .held)
   pub links : length ls ≡ maxLinks
   pub marks : length ms ≡ maxRecords
   pub ring : length hs ≡ maxHeld
+
+unfoldable pub relinks : Linking → Edit
+relinks m =
+    pick (m .adds) (add (record { from = m .from; label = m .label; to = m .to })) (remove (record { from = m .from; label = m .label; to = m .to }))
 
 -- from, to, the cause if the record has the second mark already, the cause if it has another, the kind that is held
 pub data Remarks : Edit → ℕ → Marking → Type 0 where
@@ -107,12 +117,14 @@ Tallied r = (l : ℕ) → l < labels → getD (r .totals) l 0 ≡ wordTotal l (p
 -- where the words ascend, the sheet is changed to p, and the totals follow
 pub record Changed (self : Register) (p : Packed) (r : Register) : Type 0 where
   pub kept : Kept self r
+  pub marks : r .marks ≡ p .marks
   pub sheet : Rises 0 (packedOf self .links) → packedOf r ≡ p
   pub counted : Rises 0 (packedOf self .links) → Tallied self → Tallied r
 
 -- where the words ascend and there is room, an edit is taken back, and the totals follow
 pub record TakenBack (self : Register) (kind x : ℕ) (r : Register) : Type 0 where
   pub kept : Kept self r
+  pub marks : r .marks ≡ takeBackKind kind x (packedOf self) .marks
   pub sheet : Rises 0 (packedOf self .links) → length (takeBackKind kind x (packedOf self) .links) ≤ maxLinks → packedOf r ≡ takeBackKind kind x (packedOf self)
   pub counted : Rises 0 (packedOf self .links) → Tallied self → Tallied r
 

@@ -16,6 +16,8 @@
 --   formed-keeps, keeps-formed
 --                  words have the form if they are a register's, and no others
 --   load-done      the number 0 says that they were loaded
+--   edit-foreign, edit-stepped
+--                  what an edit promises of words that are no register's, and of a register's
 -- Assumes nothing.
 use mathlib.Core.Path.{_≡_, refl, sym, ap, subst, _∙_}
 use mathlib.Core.List.{List, [], _∷_, _++_}
@@ -24,13 +26,14 @@ use native.Mathlib.Omega.{arith}
 use lib.ListN.{length, take, drop, getD, length-append, length-take, length-drop}
 use lib.Seq.{take-at, drop-at, getD-take, getD-drop, take-add, length-take-le}
 use Rattle.book.specs.Causes.{not-open, number, labels, maxLinks, maxHeld, maxRecords}
-use Rattle.register.specs.Calls.{answerNumber}
+use Rattle.book.specs.Book.{Call}
+use Rattle.register.specs.Calls.{answerNumber, Steps}
 use Rattle.register.specs.HistoryLaws.{answer-done}
 use Rattle.register.specs.Marks.{freeMark, lockMark, withdrawnMark, hasMark}
 use Rattle.register.specs.MarkLaws.{shows-locked, shows-withdrawn}
 use Rattle.register.specs.Questions.{Sized, Listing, MarkList, Locking, Withdrawal, TotalList}
 use Rattle.register.specs.Inner.{Formed, KeepsOne, markIn}
-use Rattle.register.specs.Words.{stateWords, linksAt, ringAt, marksAt, totalsAt, numbersOf, stateOf, Keeps, Foreign, OfWords, Loads}
+use Rattle.register.specs.Words.{stateWords, linksAt, ringAt, marksAt, totalsAt, numbersOf, stateOf, Keeps, Foreign, OfWords, Loads, Edits}
 use Rattle.register.specs.declared.Register.{Register}
 use Rattle.register.specs.declared.Answer.{Answer}
 use Rattle.register.specs.declared.Answer.the-variants.{Done, Refused}
@@ -205,3 +208,17 @@ load-done {o = o} l z = go (o .answer) refl
     go : (a : Answer) → o .answer ≡ a → o .answer ≡ Done
     go Done e = e
     go (Refused k) e = answer-done (o .answer) (number not-open) (l .refused (λ d. let u : _≡_ {A = ℕ} 0 1 = cc in omega arith) .0) z
+
+-- ---- edits
+pub edit-foreign : (c : Call) (ws : List ℕ) → Foreign ws → Edits c ws ws (number not-open)
+edit-foreign c ws f = record { refused = λ _. refl; past = refl; foreign = λ _. refl; steps = λ r k. absurd (f r k) }
+
+pub edit-stepped : {c : Call} {before after : List ℕ} {k : ℕ} {r : Register} (o : Outcome) → Keeps before r → ((k ≡ 0 → ⊥) → after ≡ before)
+    → drop stateWords after ≡ drop stateWords before → Steps r c o → k ≡ answerNumber (o .answer) → Keeps after (o .register) → Edits c before after k
+edit-stepped {c} {before} {after} {k} {r} o w e p t q v = record {
+  refused = e;
+  past = p;
+  foreign = λ f. absurd (f r w);
+  steps =
+      λ s u. subst (λ (x : Register). (y : Outcome) × Steps x c y × (k ≡ answerNumber (y .answer)) × Keeps after (y .register)) (keeps-same w u) (o, t, q, v);
+}

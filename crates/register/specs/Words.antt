@@ -8,24 +8,25 @@
 --   Foreign ws      the front of ws is the words of no register
 --   OfWords ws P none a
 --                   what is read of words: of a register's words a is what P promises of that register; of words that are no register's it is none
---   Copies xs at before after ok
---                   what `copy` promises: xs from place `at` on, or, if they do not fit there, false and nothing changed
 --   Loads ws out    what `load` promises: the register of the words, or, if they are no register's, 16 and the register of no records
 --   Stores r before after ok
 --                   what `store` promises: the register's words in the front, or, with too few words, or counters or marks out of
 --                   range, false and nothing changed
+--   Edits c before after k
+--                   what an edit or undo of such words promises: over any words a refused one leaves them; words that are no register's are refused
+--                   with 16; of a register's words the number and the words after it are those of an outcome that the call c promises
 -- Assumes nothing: these are definitions.
 use mathlib.Core.Path.{_≡_}
 use mathlib.Core.List.{List, [], _∷_, _++_}
 use mathlib.Core.Bool.{Bool, true, false}
-use Prim.Native.Nat.{ℕ, _+_, _≤_, _<_}
+use Prim.Native.Nat.{ℕ, _+_, _≤_}
 use lib.ListN.{length, take, drop}
 use Rattle.book.specs.Causes.{not-open, number, labels, maxLinks, maxHeld, maxRecords}
-use Rattle.book.specs.Book.{fresh}
+use Rattle.book.specs.Book.{Call, fresh}
 use Rattle.register.specs.Marks.{Marked}
 use Rattle.register.specs.Counters.{InRange}
 use Rattle.register.specs.Representation.{Represents}
-use Rattle.register.specs.Calls.{answerOf}
+use Rattle.register.specs.Calls.{answerOf, answerNumber, Steps}
 use Rattle.register.specs.declared.Register.{Register}
 use Rattle.register.specs.declared.Answer.the-variants.{Done}
 use Rattle.register.specs.declared.Outcome.{Outcome}
@@ -68,10 +69,6 @@ pub record OfWords {A : Type 0} (ws : List ℕ) (P : Register → A → Type 0) 
   pub kept : (r : Register) → Keeps ws r → P r a
   pub foreign : Foreign ws → a ≡ none
 
-pub record Copies (xs : List ℕ) (at : ℕ) (before after : List ℕ) (ok : Bool) : Type 0 where
-  pub fits : at + length xs ≤ length before → (ok ≡ true) × (after ≡ take at before ++ xs ++ drop (at + length xs) before)
-  pub short : length before < at + length xs → (ok ≡ false) × (after ≡ before)
-
 pub record Loads (ws : List ℕ) (out : Outcome) : Type 0 where
   pub loaded : out .answer ≡ Done → Keeps ws (out .register)
   pub refused : (out .answer ≡ Done → ⊥) → (out .answer ≡ answerOf (number not-open)) × Foreign ws × Represents (out .register) (fresh 0)
@@ -79,3 +76,9 @@ pub record Loads (ws : List ℕ) (out : Outcome) : Type 0 where
 pub record Stores (r : Register) (before after : List ℕ) (ok : Bool) : Type 0 where
   pub done : ok ≡ true → Keeps after r × (drop stateWords after ≡ drop stateWords before)
   pub refused : ok ≡ false → (after ≡ before) × (stateWords ≤ length before → InRange r → Marked (r .marks) → ⊥)
+
+pub record Edits (c : Call) (before after : List ℕ) (k : ℕ) : Type 0 where
+  pub refused : (k ≡ 0 → ⊥) → after ≡ before
+  pub past : drop stateWords after ≡ drop stateWords before
+  pub foreign : Foreign before → k ≡ number not-open
+  pub steps : (r : Register) → Keeps before r → (o : Outcome) × Steps r c o × (k ≡ answerNumber (o .answer)) × Keeps after (o .register)

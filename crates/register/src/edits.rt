@@ -9,14 +9,15 @@ use crate::KIND_UNIT;
 use crate::LABELS;
 use crate::LAST_HELD;
 use crate::LOCK_MARK;
-use crate::LOCKED;
+use crate::LOCKING;
+use crate::Linking;
 use crate::Marking;
 use crate::Outcome;
-use crate::REINSTATED;
+use crate::REINSTATING;
 use crate::REMOVED;
 use crate::Register;
-use crate::UNLOCKED;
-use crate::WITHDRAWN;
+use crate::UNLOCKING;
+use crate::WITHDRAWING;
 use crate::WITHDRAWN_MARK;
 use crate::state::ranged;
 use links::cut;
@@ -39,8 +40,8 @@ ghost use Rattle.book.specs.Book.{Edit, add, remove, lock, unlock, withdraw, re
 ghost use Rattle.links.specs.Ascending.{insert, Seam, standsAt};
 ghost use Rattle.register.specs.Packed.{kindUnit};
 ghost use Rattle.register.specs.Calls.{callOf, Steps};
-ghost use Rattle.register.specs.declared.Answer.the-variants.{Refused};
-ghost use Rattle.register.specs.Inner.{linkCauses, registerOf, outcomeOf, Whole, Holding, Changed, TakenBack, Remarks};
+ghost use Rattle.register.specs.declared.Answer.the-variants.{Done, Refused};
+ghost use Rattle.register.specs.Inner.{linkCauses, registerOf, outcomeOf, AsLong, Whole, relinks, Holding, Changed, TakenBack, Remarks};
 
 // The first cause against the ends and the label of a link, or 0.
 fn link_cause(n: u16, marks: &[u32], from: u16, label: u8, to: u16) -> u32
@@ -71,13 +72,6 @@ fn link_cause(n: u16, marks: &[u32], from: u16, label: u8, to: u16) -> u32
     0
 }
 
-// A link as it is named in a call.
-struct LinkParts {
-    from: u16,
-    label: u8,
-    to: u16,
-}
-
 // A refused edit: the counters as they were, and the number of the cause.
 fn refused(counters: Counters, number: u32) -> Edited
     ensures { λ r. ⌜ r ≡ record { counters = counters; answer = Refused number } ⌝ }
@@ -88,11 +82,11 @@ fn refused(counters: Counters, number: u32) -> Edited
     }
 }
 
-// The edit of a word is held, in the place of the oldest where 256 are.
-fn hold(counters: Counters, ring: &mut [u32; book::MAX_HELD], word: u32) -> Counters
+// An accepted edit: its word is held, in the place of the oldest where 256 are.
+fn hold(counters: Counters, ring: &mut [u32], word: u32) -> Edited
     requires { ⌜ (counters .top < maxHeld) × (counters .held ≤ maxHeld) × (length (now ring) ≡ maxHeld) ⌝ }
-    ensures { λ r. ⌜ ((links marks totals : List ℕ) → Holding (registerOf counters links marks (now (ring .entry)) totals) word
-        (registerOf r links marks (now (ring .exit)) totals)) ⌝ }
+    ensures { λ r. ⌜ (r .answer ≡ Done) × ((links marks totals : List ℕ) → Holding (registerOf counters links marks (now (ring .entry)) totals) word
+        (registerOf (r .counters) links marks (now (ring .exit)) totals)) ⌝ }
 {
     let top = counters.top;
     let mut next = top + 1;
@@ -104,65 +98,46 @@ fn hold(counters: Counters, ring: &mut [u32; book::MAX_HELD], word: u32) -> Coun
     if held < book::MAX_HELD {
         held += 1;
     }
-    Counters {
-        n: counters.n,
-        count: counters.count,
-        top: next,
-        held,
+    let mut changed = counters;
+    changed.top = next;
+    changed.held = held;
+    Edited {
+        counters: changed,
+        answer: Answer::Done, // and it is held
     }
 }
 
 // The link of a word put in at its place, and its label's total with it.
-fn put_in(
-    counters: Counters,
-    links: &mut [u32; book::MAX_LINKS],
-    totals: &mut [u32; book::LABELS],
-    at: usize,
-    x: u32,
-) -> Counters
+fn put_in(counters: Counters, links: &mut [u32], totals: &mut [u32], at: usize, x: u32) -> Counters
     requires { ⌜ (counters .count < maxLinks) × (length (now links) ≡ maxLinks) × (length (now totals) ≡ labels) × Seam x (now links) (counters .count) at ⌝ }
     ensures { λ r. ⌜ ((marks ring : List ℕ) → Changed (registerOf counters (now (links .entry)) marks ring (now (totals .entry)))
         (record { links = insert x (take (counters .count) (now (links .entry))); marks = marks })
         (registerOf r (now (links .exit)) marks ring (now (totals .exit)))) ⌝ }
 {
-    let count = counters.count;
-    put(links, count, at, x);
+    let mut changed = counters;
+    put(links, changed.count, at, x);
     raise_total(totals, x);
-    Counters {
-        n: counters.n,
-        count: count + 1,
-        top: counters.top,
-        held: counters.held,
-    }
+    changed.count += 1;
+    changed
 }
 
 // The link of a word taken out where it stands, and of its label's total.
-fn take_out(
-    counters: Counters,
-    links: &mut [u32; book::MAX_LINKS],
-    totals: &mut [u32; book::LABELS],
-    at: usize,
-    x: u32,
-) -> Counters
+fn cut_out(counters: Counters, links: &mut [u32], totals: &mut [u32], at: usize, x: u32) -> Counters
     requires { ⌜ (counters .count ≤ maxLinks) × (length (now links) ≡ maxLinks) × (length (now totals) ≡ labels) × Seam x (now links) (counters .count) at
         × (standsAt (now links) (counters .count) at x ≡ true) ⌝ }
     ensures { λ r. ⌜ ((marks ring : List ℕ) → Changed (registerOf counters (now (links .entry)) marks ring (now (totals .entry)))
         (record { links = without eqb x (take (counters .count) (now (links .entry))); marks = marks })
         (registerOf r (now (links .exit)) marks ring (now (totals .exit)))) ⌝ }
 {
-    let count = counters.count;
-    cut(links, count, at);
+    let mut changed = counters;
+    cut(links, changed.count, at);
     lower_total(totals, x);
-    Counters {
-        n: counters.n,
-        count: count - 1,
-        top: counters.top,
-        held: counters.held,
-    }
+    changed.count -= 1;
+    changed
 }
 
 // A record's mark; a number that is no record's is passed over.
-fn set_mark(counters: Counters, marks: &mut [u32; book::MAX_RECORDS], x: u32, mark: u32) -> Counters
+fn set_mark(counters: Counters, marks: &mut [u32], x: u32, mark: u32) -> Counters
     requires { ⌜ (counters .count ≤ maxLinks) × (length (now marks) ≡ maxRecords) ⌝ }
     ensures { λ r. ⌜ ((links ring totals : List ℕ) → Changed (registerOf counters links (now (marks .entry)) ring totals)
         (record { links = take (counters .count) links; marks = set (now (marks .entry)) x mark }) (registerOf r links (now (marks .exit)) ring totals)) ⌝ }
@@ -177,9 +152,9 @@ fn set_mark(counters: Counters, marks: &mut [u32; book::MAX_RECORDS], x: u32, ma
 // An edit taken back, by its kind; what is of no kind is left.
 fn taken_back(
     counters: Counters,
-    links: &mut [u32; book::MAX_LINKS],
-    marks: &mut [u32; book::MAX_RECORDS],
-    totals: &mut [u32; book::LABELS],
+    links: &mut [u32],
+    marks: &mut [u32],
+    totals: &mut [u32],
     kind: u32,
     x: u32,
 ) -> Counters
@@ -194,7 +169,7 @@ fn taken_back(
             if !stands(links, count, at, x) {
                 return counters;
             }
-            take_out(counters, links, totals, at, x)
+            cut_out(counters, links, totals, at, x)
         }
         1 => {
             if book::MAX_LINKS <= count {
@@ -211,23 +186,22 @@ fn taken_back(
     }
 }
 
-// A link put in: 2, 18, 3, 4, 5 or 7 if it cannot be.
-fn add(
+// A link put in or taken out: 2, 18, 3, 4, then 5 or 7 for one to be put in and 6 for one to be taken out, if it cannot be.
+fn relink(
     counters: Counters,
-    links: &mut [u32; book::MAX_LINKS],
+    links: &mut [u32],
     marks: &[u32],
-    ring: &mut [u32; book::MAX_HELD],
-    totals: &mut [u32; book::LABELS],
-    link: LinkParts,
+    ring: &mut [u32],
+    totals: &mut [u32],
+    linking: Linking,
 ) -> Edited
     requires { ⌜ Whole counters (now links) (now marks) (now ring) × (length (now totals) ≡ labels) ⌝ }
     ensures { λ r. ⌜ Steps (registerOf counters (now (links .entry)) (now (marks .entry)) (now (ring .entry)) (now (totals .entry)))
-        (edit (add (record { from = link .from; label = link .label; to = link .to })))
-        (outcomeOf r (now (links .exit)) (now (marks .entry)) (now (ring .exit)) (now (totals .exit))) ⌝ }
+        (edit (relinks linking)) (outcomeOf r (now (links .exit)) (now (marks .entry)) (now (ring .exit)) (now (totals .exit))) ⌝ }
 {
-    let from = link.from;
-    let label = link.label;
-    let to = link.to;
+    let from = linking.from;
+    let label = linking.label;
+    let to = linking.to;
     let cause = link_cause(counters.n, marks, from, label, to);
     // the causes of the ends, a lock among them, were looked for before anything is written or held
     if cause != 0 {
@@ -236,92 +210,30 @@ fn add(
     let x = link_word(from, label, to);
     let count = counters.count;
     let at = lower_bound(links, count, x);
-    if stands(links, count, at, x) {
-        return refused(counters, book::ALREADY);
+    let found = stands(links, count, at, x);
+    if linking.adds {
+        if found {
+            return refused(counters, book::ALREADY);
+        }
+        if book::MAX_LINKS <= count {
+            return refused(counters, book::FULL);
+        }
+        let changed = put_in(counters, links, totals, at, x);
+        return hold(changed, ring, x);
     }
-    if book::MAX_LINKS <= count {
-        return refused(counters, book::FULL);
-    }
-    let changed = put_in(counters, links, totals, at, x);
-    Edited {
-        counters: hold(changed, ring, x),
-        answer: Answer::Done, // the link is in
-    }
-}
-
-// A link taken out: 2, 18, 3, 4 or 6 if it cannot be.
-fn remove(
-    counters: Counters,
-    links: &mut [u32; book::MAX_LINKS],
-    marks: &[u32],
-    ring: &mut [u32; book::MAX_HELD],
-    totals: &mut [u32; book::LABELS],
-    link: LinkParts,
-) -> Edited
-    requires { ⌜ Whole counters (now links) (now marks) (now ring) × (length (now totals) ≡ labels) ⌝ }
-    ensures { λ r. ⌜ Steps (registerOf counters (now (links .entry)) (now (marks .entry)) (now (ring .entry)) (now (totals .entry)))
-        (edit (remove (record { from = link .from; label = link .label; to = link .to })))
-        (outcomeOf r (now (links .exit)) (now (marks .entry)) (now (ring .exit)) (now (totals .exit))) ⌝ }
-{
-    let from = link.from;
-    let label = link.label;
-    let to = link.to;
-    let cause = link_cause(counters.n, marks, from, label, to);
-    if cause != 0 {
-        return refused(counters, cause);
-    }
-    let x = link_word(from, label, to);
-    let count = counters.count;
-    let at = lower_bound(links, count, x);
-    if !stands(links, count, at, x) {
+    if !found {
         return refused(counters, book::MISSING);
     }
-    let changed = take_out(counters, links, totals, at, x);
-    Edited {
-        counters: hold(changed, ring, REMOVED + x),
-        answer: Answer::Done,
-    }
+    let changed = cut_out(counters, links, totals, at, x);
+    hold(changed, ring, REMOVED + x)
 }
-
-// The changes of a record's mark: from which to which; the causes if the record has the second already, and if it has another; and what is held.
-const LOCKING: Marking = Marking {
-    from: FREE_MARK,
-    to: LOCK_MARK,
-    already: book::ALREADY,
-    barred: book::WITHDRAWN_RECORD,
-    kind: LOCKED,
-};
-
-const UNLOCKING: Marking = Marking {
-    from: LOCK_MARK,
-    to: FREE_MARK,
-    already: book::MISSING,
-    barred: book::WITHDRAWN_RECORD,
-    kind: UNLOCKED,
-};
-
-const WITHDRAWING: Marking = Marking {
-    from: FREE_MARK,
-    to: WITHDRAWN_MARK,
-    already: book::ALREADY,
-    barred: book::LOCKED_END,
-    kind: WITHDRAWN,
-};
-
-const REINSTATING: Marking = Marking {
-    from: WITHDRAWN_MARK,
-    to: FREE_MARK,
-    already: book::MISSING,
-    barred: book::MISSING,
-    kind: REINSTATED,
-};
 
 // A record's mark changed: 2, the causes of the change, or 17 for a record to be withdrawn that a link touches, if it cannot be.
 fn remark(
     counters: Counters,
     links: &[u32],
-    marks: &mut [u32; book::MAX_RECORDS],
-    ring: &mut [u32; book::MAX_HELD],
+    marks: &mut [u32],
+    ring: &mut [u32],
     x: u16,
     marking: Marking,
 ) -> Edited
@@ -346,19 +258,16 @@ fn remark(
         }
     }
     let changed = set_mark(counters, marks, x as u32, marking.to);
-    Edited {
-        counters: hold(changed, ring, marking.kind + x as u32),
-        answer: Answer::Done,
-    }
+    hold(changed, ring, marking.kind + x as u32)
 }
 
 // The latest edit still held taken back; with none held the answer is 8.
 fn undo(
     counters: Counters,
-    links: &mut [u32; book::MAX_LINKS],
-    marks: &mut [u32; book::MAX_RECORDS],
+    links: &mut [u32],
+    marks: &mut [u32],
     ring: &[u32],
-    totals: &mut [u32; book::LABELS],
+    totals: &mut [u32],
 ) -> Edited
     requires { ⌜ Whole counters (now links) (now marks) (now ring) × (length (now totals) ≡ labels) ⌝ }
     ensures { λ r. ⌜ Steps (registerOf counters (now (links .entry)) (now (marks .entry)) (now (ring .entry)) (now (totals .entry))) undo
@@ -374,21 +283,13 @@ fn undo(
         at = top - 1;
     }
     let word = ring[at];
-    let fewer = Counters {
-        n: counters.n,
-        count: counters.count,
-        top: at,
-        held: held - 1,
-    };
+    let kind = word / KIND_UNIT;
+    let x = word % KIND_UNIT;
+    let mut fewer = counters;
+    fewer.top = at;
+    fewer.held = held - 1;
     Edited {
-        counters: taken_back(
-            fewer,
-            links,
-            marks,
-            totals,
-            word / KIND_UNIT,
-            word % KIND_UNIT,
-        ),
+        counters: taken_back(fewer, links, marks, totals, kind, x),
         answer: Answer::Done,
     }
 }
@@ -396,13 +297,13 @@ fn undo(
 // Any edit, or an undo, on the arrays of a register. Contents that no call of the engine made, whose counters are out of range, are refused with 16.
 pub fn edit(
     counters: Counters,
-    links: &mut [u32; book::MAX_LINKS],
-    marks: &mut [u32; book::MAX_RECORDS],
-    ring: &mut [u32; book::MAX_HELD],
-    totals: &mut [u32; book::LABELS],
+    links: &mut [u32],
+    marks: &mut [u32],
+    ring: &mut [u32],
+    totals: &mut [u32],
     call: Call,
 ) -> Edited
-    requires { ⌜ (length (now links) ≡ maxLinks) × (length (now marks) ≡ maxRecords) × (length (now ring) ≡ maxHeld) × (length (now totals) ≡ labels) ⌝ }
+    requires { ⌜ AsLong (now links) (now marks) (now ring) (now totals) ⌝ }
     ensures { λ r. ⌜ Steps (registerOf counters (now (links .entry)) (now (marks .entry)) (now (ring .entry)) (now (totals .entry))) (callOf call)
         (outcomeOf r (now (links .exit)) (now (marks .exit)) (now (ring .exit)) (now (totals .exit))) ⌝ }
 {
@@ -410,22 +311,24 @@ pub fn edit(
         return refused(counters, book::NOT_OPEN);
     }
     match call {
-        Call::Add(from, label, to) => add(
-            counters,
-            links,
-            marks,
-            ring,
-            totals,
-            LinkParts { from, label, to },
-        ),
-        Call::Remove(from, label, to) => remove(
-            counters,
-            links,
-            marks,
-            ring,
-            totals,
-            LinkParts { from, label, to },
-        ),
+        Call::Add(from, label, to) => {
+            let linking = Linking {
+                from,
+                label,
+                to,
+                adds: true,
+            };
+            relink(counters, links, marks, ring, totals, linking)
+        }
+        Call::Remove(from, label, to) => {
+            let linking = Linking {
+                from,
+                label,
+                to,
+                adds: false,
+            };
+            relink(counters, links, marks, ring, totals, linking)
+        }
         Call::Lock(record) => remark(counters, links, marks, ring, record, LOCKING),
         Call::Unlock(record) => remark(counters, links, marks, ring, record, UNLOCKING),
         Call::Withdraw(record) => remark(counters, links, marks, ring, record, WITHDRAWING),

@@ -24,7 +24,7 @@ pub use history::replay;
 pub use links::label_part;
 pub use state::number_of;
 pub use words::STATE_WORDS;
-pub use words::copy;
+pub use words::edit_in;
 pub use words::fitting;
 pub use words::has_mark;
 pub use words::is_register;
@@ -131,6 +131,14 @@ struct Edited {
     answer: Answer,
 }
 
+// A link put in or taken out.
+struct Linking {
+    from: u16,
+    label: u8,
+    to: u16,
+    adds: bool,
+}
+
 // A change of a record's mark: from which to which; the causes if the record has the second already, and if it has another; and what is held for it.
 struct Marking {
     from: u32,
@@ -139,3 +147,35 @@ struct Marking {
     barred: u32,
     kind: u32,
 }
+
+const LOCKING: Marking = Marking {
+    from: FREE_MARK,
+    to: LOCK_MARK,
+    already: book::ALREADY,
+    barred: book::WITHDRAWN_RECORD,
+    kind: LOCKED,
+};
+
+const UNLOCKING: Marking = Marking {
+    from: LOCK_MARK,
+    to: FREE_MARK,
+    already: book::MISSING,
+    barred: book::WITHDRAWN_RECORD,
+    kind: UNLOCKED,
+};
+
+const WITHDRAWING: Marking = Marking {
+    from: FREE_MARK,
+    to: WITHDRAWN_MARK,
+    already: book::ALREADY,
+    barred: book::LOCKED_END,
+    kind: WITHDRAWN,
+};
+
+const REINSTATING: Marking = Marking {
+    from: WITHDRAWN_MARK,
+    to: FREE_MARK,
+    already: book::MISSING,
+    barred: book::MISSING,
+    kind: REINSTATED,
+};

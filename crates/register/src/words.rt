@@ -2,22 +2,27 @@
 // of at least so many. Here alone stands where each of them is: what is read of such words without loading the register, and how it is loaded and stored.
 // What that promises is stated in specs/Words.antt.
 use crate::Answer;
+use crate::Call;
+use crate::Counters;
 use crate::LABELS;
 use crate::Outcome;
 use crate::Register;
 use crate::WITHDRAWN_MARK;
+use crate::edits::edit;
 use crate::state::empty;
 use crate::state::ranged;
 use answers::Counted;
+use answers::copy_u32;
 ghost use mathlib.Core.Path.{_≡_};
 ghost use mathlib.Core.Bool.{false};
 ghost use Prim.Native.Nat.{_≤_};
 ghost use lib.ListN.{length, take, drop, getD};
 ghost use Rattle.book.specs.Causes.{not-open, number};
 ghost use Rattle.register.specs.Marks.{hasMark, Marked};
+ghost use Rattle.register.specs.Calls.{callOf};
 ghost use Rattle.register.specs.Questions.{Totals};
 ghost use Rattle.register.specs.Inner.{KeepsOne, SizeIn, markIn, Shown, Tested};
-ghost use Rattle.register.specs.Words.{OfWords, Copies, Loads, Stores};
+ghost use Rattle.register.specs.Words.{OfWords, Loads, Stores, Edits};
 ghost use Rattle.answers.specs.declared.Counted.the-variants.{Refused};
 
 // The places of the counters, and of the first link, the ring, the first mark and the first total; and how many words a register has.
@@ -41,24 +46,6 @@ pub const STATE_WORDS: usize = TOTALS_AT + book::LABELS;
 
 // The most records, as wide as a word.
 const MOST_SIZE: u32 = book::MAX_RECORDS as u32;
-
-// A part of words copied to a place from word `at` on; false, and nothing written, if it does not fit there.
-pub fn copy(from: &[u32], to: &mut [u32], at: usize) -> bool
-    ensures { λ r. ⌜ Copies (now (from .entry)) at (now (to .entry)) (now (to .exit)) r ⌝ }
-{
-    if to.len() < from.len() {
-        return false;
-    }
-    if to.len() - from.len() < at {
-        return false;
-    }
-    let mut i = 0;
-    while i < from.len() {
-        to[at + i] = from[i];
-        i += 1;
-    }
-    true
-}
 
 // How many of some words there is room for.
 pub fn fitting(words: &[u32], room: usize) -> usize
@@ -189,6 +176,50 @@ pub fn totals_in<'a>(words: &'a [u32]) -> &'a [u32]
     part(words, TOTALS_AT, book::LABELS)
 }
 
+// ---- edited in place
+
+// An edit or undo of the register whose words these are, by its number; 16 for words that are no register's. The links are edited where they stand, and the
+// rest in copies, which are put back if it is accepted.
+pub fn edit_in(words: &mut [u32], call: Call) -> u32
+    ensures { λ k. ⌜ Edits (callOf call) (now (words .entry)) (now (words .exit)) k ⌝ }
+{
+    if !is_register(words) {
+        return book::NOT_OPEN;
+    }
+    let mut ring: [u32; book::MAX_HELD] = [0; book::MAX_HELD];
+    copy_u32(&words[RING_AT..MARKS_AT], &mut ring, 0);
+    let mut marks: [u32; book::MAX_RECORDS] = [0; book::MAX_RECORDS];
+    copy_u32(&words[MARKS_AT..TOTALS_AT], &mut marks, 0);
+    let mut totals: [u32; book::LABELS] = [0; book::LABELS];
+    copy_u32(&words[TOTALS_AT..STATE_WORDS], &mut totals, 0);
+    let counters = Counters {
+        n: words[SIZE_AT] as u16,
+        count: words[COUNT_AT] as usize,
+        top: words[TOP_AT] as usize,
+        held: words[HELD_AT] as usize,
+    };
+    let links = &mut words[LINKS_AT..RING_AT];
+    let edited = edit(counters, links, &mut marks, &mut ring, &mut totals, call);
+    let answer = edited.answer;
+    match answer {
+        Answer::Refused(number) => number,
+        Answer::Done => {
+            let after = edited.counters;
+            let numbers: [u32; LINKS_AT] = [
+                after.n as u32,
+                after.count as u32,
+                after.top as u32,
+                after.held as u32,
+            ];
+            copy_u32(&numbers, words, SIZE_AT);
+            copy_u32(&ring, words, RING_AT);
+            copy_u32(&marks, words, MARKS_AT);
+            copy_u32(&totals, words, TOTALS_AT);
+            0
+        }
+    }
+}
+
 // ---- loaded and stored
 
 impl Register {
@@ -203,13 +234,13 @@ impl Register {
             };
         }
         let mut links: [u32; book::MAX_LINKS] = [0; book::MAX_LINKS];
-        copy(&words[LINKS_AT..RING_AT], &mut links, 0);
+        copy_u32(&words[LINKS_AT..RING_AT], &mut links, 0);
         let mut ring: [u32; book::MAX_HELD] = [0; book::MAX_HELD];
-        copy(&words[RING_AT..MARKS_AT], &mut ring, 0);
+        copy_u32(&words[RING_AT..MARKS_AT], &mut ring, 0);
         let mut marks: [u32; book::MAX_RECORDS] = [0; book::MAX_RECORDS];
-        copy(&words[MARKS_AT..TOTALS_AT], &mut marks, 0);
+        copy_u32(&words[MARKS_AT..TOTALS_AT], &mut marks, 0);
         let mut totals: [u32; book::LABELS] = [0; book::LABELS];
-        copy(&words[TOTALS_AT..STATE_WORDS], &mut totals, 0);
+        copy_u32(&words[TOTALS_AT..STATE_WORDS], &mut totals, 0);
         Outcome {
             register: Register {
                 n: words[SIZE_AT] as u16,
@@ -246,11 +277,11 @@ impl Register {
             self.top as u32,
             self.held as u32,
         ];
-        copy(&numbers, words, SIZE_AT);
-        copy(&self.links, words, LINKS_AT);
-        copy(&self.ring, words, RING_AT);
-        copy(&marks, words, MARKS_AT);
-        copy(&self.totals, words, TOTALS_AT);
+        copy_u32(&numbers, words, SIZE_AT);
+        copy_u32(&self.links, words, LINKS_AT);
+        copy_u32(&self.ring, words, RING_AT);
+        copy_u32(&marks, words, MARKS_AT);
+        copy_u32(&self.totals, words, TOTALS_AT);
         true
     }
 }

@@ -26,6 +26,9 @@ loop-again c = (
       (c .before .before .loop .carried) (omega arith) (omega arith) ∙ c .before .before .loop .inv .2,
 )
 
+same-length : tie.Need-same-length Inv-loop μ-loop
+same-length c = simp length-set (omega arith)
+
 returns : tie.Need-returns Inv-loop μ-loop
 returns c =
     let e : c .before .loop .j ≡ c .before .before .args .count = omega arith in
@@ -41,4 +44,5 @@ put-spec =
     (λ c. omega arith) (λ c. omega arith) (λ c. omega arith) (λ c. omega arith) (λ c. omega arith) (λ c. omega arith)
     loop-again
     (λ c. omega arith) (λ c. omega arith)
+    same-length
     returns)

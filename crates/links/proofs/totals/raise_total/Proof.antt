@@ -15,17 +15,17 @@ returns c = raised (λ h _. absurd (omega (arith, c .if1 .taken, c .before .labe
 returns-2 : tie.Need-returns-2
 returns-2 c =
     let after-label-of = c .before .before .before in
-    let ts = after-label-of .before .args .totals .now in
+    let ts = after-label-of .before .before .args .totals .now in
     let same = ap (λ (l : ℕ). getD ts l 0) (after-label-of .label-of .ensures) in
     raised (λ _ h. absurd (omega (arith, c .if2 .taken, same, h))) (λ j _. refl)
 
 returns-3 : tie.Need-returns-3
 returns-3 c =
     let after-label-of = c .before .before .before .before in
-    let ts = after-label-of .before .args .totals .now in
+    let ts = after-label-of .before .before .args .totals .now in
     let label = after-label-of .label-of .result in
     subst (λ (l : ℕ). Raised l ts (set ts label (getD ts label 0 + 1))) (after-label-of .label-of .ensures)
-    (raised-set label ts (omega (arith, after-label-of .before .pre)))
+    (raised-set label ts (omega (arith, after-label-of .before .before .pre)))
 
 pub raise-total-spec : {M : Type 1} → statement M
 raise-total-spec =
@@ -35,5 +35,5 @@ raise-total-spec =
     returns
     (λ c. search needs) (λ c. search needs)
     returns-2
-    (λ c. search needs) (λ c. search needs) (λ c. search needs) (λ c. search needs) (λ c. search needs)
+    (λ c. search needs) (λ c. search needs) (λ c. search needs) (λ c. search needs) (λ c. search needs) (λ c. search needs)
     returns-3)

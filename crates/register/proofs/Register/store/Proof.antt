@@ -6,6 +6,7 @@ use native.Mathlib.Omega.{arith}
 use borrow.Author.Tests.{not-true, not-false}
 use Rattle.register.specs.Marks.{Marked}
 use Rattle.register.specs.Counters.{InRange}
+use Rattle.register.specs.Inner.{AsLong}
 use Rattle.register.proofs.StepLaws.{outside, inside}
 use Rattle.register.proofs.KeepLaws.{stored, store-refused}
 use borrow.Author.Needs.{needs}
@@ -18,17 +19,35 @@ in-range c = inside (c .before .before .before .before .args .t1) (c .before .ra
 marks-right : (c : tie.Else3) → Marked (c .before .before .before .before .before .before .before .before .args .t1 .marks)
 marks-right c = c .before .marked .ensures .sure (not-false _ (c .if3 .left))
 
-links-long : (c : tie.Start) → length (c .args .t1 .links) ≡ 4096
-links-long c = search needs
+as-long : (c : tie.Start) → AsLong (c .args .t1 .links) (c .args .t1 .marks) (c .args .t1 .ring) (c .args .t1 .totals)
+as-long c = (search needs, search needs, search needs, search needs)
 
-ring-long : (c : tie.Start) → length (c .args .t1 .ring) ≡ 256
-ring-long c = search needs
+-- the space stays as long as it was
+room : (c : tie.Else1) → 5406 ≤ length (c .before .before .args .words .now)
+room c = omega (arith, c .if1 .left)
 
-marks-long : (c : tie.Start) → length (c .args .t1 .marks) ≡ 1024
-marks-long c = search needs
+room-1 : (c : tie.After-copy-u32) → 5406 ≤ length (c .copy-u32 .last .1 .0)
+room-1 c =
+    let else1 = c .before .before .before .before .before .before .before .before .before in
+    let k : length (c .copy-u32 .last .1 .0) ≡ length (else1 .before .before .args .words .now) = c .copy-u32 .kept .1 .0 in omega (arith, k, room else1)
 
-totals-long : (c : tie.Start) → length (c .args .t1 .totals) ≡ 26
-totals-long c = search needs
+room-2 : (c : tie.After-copy-u322) → 5406 ≤ length (c .copy-u322 .last .1 .0)
+room-2 c =
+    let after-copy-u32 = c .before .before .before .before .before .before .before in
+    let k : length (c .copy-u322 .last .1 .0) ≡ length (after-copy-u32 .copy-u32 .last .1 .0) = c .copy-u322 .kept .1 .0 in
+    omega (arith, k, room-1 after-copy-u32)
+
+room-3 : (c : tie.After-copy-u323) → 5406 ≤ length (c .copy-u323 .last .1 .0)
+room-3 c =
+    let after-copy-u322 = c .before .before .before .before .before .before .before in
+    let k : length (c .copy-u323 .last .1 .0) ≡ length (after-copy-u322 .copy-u322 .last .1 .0) = c .copy-u323 .kept .1 .0 in
+    omega (arith, k, room-2 after-copy-u322)
+
+room-4 : (c : tie.After-copy-u324) → 5406 ≤ length (c .copy-u324 .last .1 .0)
+room-4 c =
+    let after-copy-u323 = c .before .before .before .before .before in
+    let k : length (c .copy-u324 .last .1 .0) ≡ length (after-copy-u323 .copy-u323 .last .1 .0) = c .copy-u324 .kept .1 .0 in
+    omega (arith, k, room-3 after-copy-u323)
 
 returns : tie.Need-returns
 returns c = store-refused _ _ (λ l _ _. omega (arith, c .if1 .taken))
@@ -48,44 +67,57 @@ cast-t17 c = omega (arith, in-range (c .before .before .before .before) .top)
 cast-t18 : tie.Need-cast-t18
 cast-t18 c = omega (arith, in-range (c .before .before .before .before) .held)
 
-slice-aggregate-copy-2 : tie.Need-slice-aggregate-copy-2
-slice-aggregate-copy-2 c =
+copy-u32-requires : tie.Need-copy-u32-requires
+copy-u32-requires c κs = omega (arith, room (c .before .before .before .before .before .before .before .before))
+
+copy-u32-requires-2 : tie.Need-copy-u32-requires-2
+copy-u32-requires-2 c κs =
+    let after-copy-u32 = c .before .before .before .before .before .before in
+    let start = after-copy-u32 .before .before .before .before .before .before .before .before .before .before .before in
+    omega (arith, room-1 after-copy-u32, as-long start .0)
+
+copy-u32-requires-3 : tie.Need-copy-u32-requires-3
+copy-u32-requires-3 c κs =
+    let after-copy-u322 = c .before .before .before .before .before .before in
+    let earlier = after-copy-u322 .before .before .before .before .before .before .before .before .before in
+    let start = earlier .before .before .before .before .before .before .before .before .before in
+    omega (arith, room-2 after-copy-u322, as-long start .2)
+
+slice-aggregate-copy-u32-2 : tie.Need-slice-aggregate-copy-u32-2
+slice-aggregate-copy-u32-2 c =
     let earlier = c .before .before .before .before .before .before .before .before .before .before .before .before .before .before in
-    sym (marks-long (earlier .before .before .before .before .before .before .before .before .before .before .before .before .before .before))
+    let start = earlier .before .before .before .before .before .before .before .before .before .before .before .before .before .before in
+    sym (as-long start .1)
+
+copy-u32-requires-4 : tie.Need-copy-u32-requires-4
+copy-u32-requires-4 c κs =
+    let after-copy-u323 = c .before .before .before .before in
+    let earlier = after-copy-u323 .before .before .before .before .before .before .before .before .before .before .before .before in
+    let start = earlier .before .before .before .before .before .before .before .before .before .before .before .before .before in
+    omega (arith, room-3 after-copy-u323, as-long start .1)
+
+copy-u32-requires-5 : tie.Need-copy-u32-requires-5
+copy-u32-requires-5 c κs =
+    let after-copy-u324 = c .before .before .before .before .before .before in
+    let earlier = after-copy-u324 .before .before .before .before .before .before .before .before .before .before .before .before .before .before .before in
+    let earlier′ = earlier .before .before .before .before .before .before .before in
+    let start = earlier′ .before .before .before .before .before .before .before .before in
+    omega (arith, room-4 after-copy-u324, as-long start .3)
 
 returns-4 : tie.Need-returns-4
 returns-4 c =
-    let after-copy5 = c .before .before in
-    let after-copy4 = after-copy5 .before .before .before .before .before .before .before in
-    let after-copy3 = after-copy4 .before .before .before .before .before in
-    let after-copy2 = after-copy3 .before .before .before .before .before .before .before in
-    let after-copy = after-copy2 .before .before .before .before .before .before .before in
-    let else3 = after-copy .before .before .before in
+    let after-copy-u325 = c .before .before in
+    let after-copy-u324 = after-copy-u325 .before .before .before .before .before .before .before in
+    let after-copy-u323 = after-copy-u324 .before .before .before .before .before in
+    let after-copy-u322 = after-copy-u323 .before .before .before .before .before .before .before in
+    let after-copy-u32 = after-copy-u322 .before .before .before .before .before .before .before in
+    let else3 = after-copy-u32 .before .before .before in
     let else2 = else3 .before .before .before .before in
     let start = else2 .before .before .before .before in
-    let r = start .args .t1 in
-    let w₀ = start .args .words .now in
-    let w₁ = after-copy .copy .last .1 .0 in
-    let w₂ = after-copy2 .copy2 .last .1 .0 in
-    let w₃ = after-copy3 .copy3 .last .1 .0 in
-    let w₄ = after-copy4 .copy4 .last .1 .0 in
-    let w₅ = after-copy5 .copy5 .last .1 .0 in
-    let k₀ : 5406 ≤ length w₀ = omega (arith, else2 .before .before .if1 .left) in
-    let k₁ : length w₁ ≡ length w₀ = after-copy .copy .kept .1 .0 in
-    let k₂ : length w₂ ≡ length w₁ = after-copy2 .copy2 .kept .1 .0 in
-    let k₃ : length w₃ ≡ length w₂ = after-copy3 .copy3 .kept .1 .0 in
-    let k₄ : length w₄ ≡ length w₃ = after-copy4 .copy4 .kept .1 .0 in
-    let ls = links-long start in
-    let rs = ring-long start in
-    let ms = marks-long start in
-    let ts = totals-long start in
-    stored r w₀ w₁ w₂ w₃ w₄ w₅ (in-range else2) (marks-right else3) ls rs ms ts
-    k₀ (omega (arith, k₀, k₁)) (omega (arith, k₀, k₁, k₂)) (omega (arith, k₀, k₁, k₂, k₃)) (omega (arith, k₀, k₁, k₂, k₃, k₄))
-    (after-copy .copy .ensures .fits (omega (arith, k₀)) .1)
-    (after-copy2 .copy2 .ensures .fits (omega (arith, k₀, k₁, ls)) .1)
-    (after-copy3 .copy3 .ensures .fits (omega (arith, k₀, k₁, k₂, rs)) .1)
-    (after-copy4 .copy4 .ensures .fits (omega (arith, k₀, k₁, k₂, k₃, ms)) .1)
-    (after-copy5 .copy5 .ensures .fits (omega (arith, k₀, k₁, k₂, k₃, k₄, ts)) .1)
+    stored (start .args .t1) (in-range else2) (marks-right else3) (as-long start) (start .args .words .now) (after-copy-u32 .copy-u32 .last .1 .0)
+    (after-copy-u322 .copy-u322 .last .1 .0) (after-copy-u323 .copy-u323 .last .1 .0) (after-copy-u324 .copy-u324 .last .1 .0)
+    (after-copy-u325 .copy-u325 .last .1 .0) (room (else2 .before .before)) (after-copy-u32 .copy-u32 .ensures) (after-copy-u322 .copy-u322 .ensures)
+    (after-copy-u323 .copy-u323 .ensures) (after-copy-u324 .copy-u324 .ensures) (after-copy-u325 .copy-u325 .ensures)
 
 pub store-spec : {M : Type 1} → statement M
 store-spec =
@@ -100,7 +132,12 @@ store-spec =
     cast-t16
     cast-t17
     cast-t18
-    (λ c. search needs) (λ c κs. search needs) (λ c κs. search needs) (λ c κs. search needs)
-    slice-aggregate-copy-2
-    (λ c κs. search needs) (λ c κs. search needs) (λ c. search needs)
+    (λ c. search needs)
+    copy-u32-requires
+    copy-u32-requires-2
+    copy-u32-requires-3
+    slice-aggregate-copy-u32-2
+    copy-u32-requires-4
+    copy-u32-requires-5
+    (λ c. search needs)
     returns-4)

@@ -19,31 +19,43 @@ stepped c =
 
 returns : tie.Need-returns
 returns c =
-    let s = c .before .before .args in
-    λ links marks totals. record {
-      n = refl;
-      sheet = refl;
-      count = refl;
-      top = stepped (c .before) .1;
-      few = omega arith;
-      words =
-          hold-more (s .ring .now) (s .counters .top) (s .word) (c .before .if1 .next) (s .counters .held) (stepped (c .before) .0) (omega arith) (omega arith);
-      totals = refl;
-    }
+    let s = c .before .before .args in (
+      refl,
+      λ links marks totals. record {
+        n = refl;
+        sheet = refl;
+        count = refl;
+        top = stepped (c .before) .1;
+        few = omega arith;
+        words =
+            hold-more (s .ring .now) (s .counters .top) (s .word) (c .before .if1 .next)
+            (s .counters .held) (stepped (c .before) .0) (omega arith) (omega arith);
+        totals = refl;
+      },
+    )
 
 returns-2 : tie.Need-returns-2
 returns-2 c =
-    let s = c .before .before .args in
-    λ links marks totals. record {
-      n = refl;
-      sheet = refl;
-      count = refl;
-      top = stepped (c .before) .1;
-      few = omega arith;
-      words =
-          hold-full (s .ring .now) (s .counters .top) (s .word) (c .before .if1 .next) (s .counters .held) (stepped (c .before) .0) (omega arith) (omega arith);
-      totals = refl;
-    }
+    let s = c .before .before .args in (
+      refl,
+      λ links marks totals. record {
+        n = refl;
+        sheet = refl;
+        count = refl;
+        top = stepped (c .before) .1;
+        few = omega arith;
+        words =
+            hold-full (s .ring .now) (s .counters .top) (s .word) (c .before .if1 .next)
+            (s .counters .held) (stepped (c .before) .0) (omega arith) (omega arith);
+        totals = refl;
+      },
+    )
 
 pub hold-spec : {M : Type 1} → statement M
-hold-spec = tie.close (tie.spec (λ c. search needs) (λ c. search needs) (λ c. search needs) (λ c. search needs) returns returns-2)
+hold-spec =
+    tie.close
+    (tie.spec
+    (λ c. search needs) (λ c. search needs) (λ c. search needs) (λ c. search needs) (λ c. search needs)
+    returns
+    (λ c. search needs)
+    returns-2)
