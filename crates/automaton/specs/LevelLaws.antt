@@ -1,4 +1,4 @@
--- The levels backward: one level more keeps what the numbers mean, and an empty level ends the search.
+-- Laws of the levels, which the search makes backward from the end: one level more keeps what the numbers mean, and an empty level ends the search.
 --   walk-stop, walk-more, walk-ends, walk-less
 --                     walks made and taken apart at their first step
 --   reach-less        what reaches the end in one step more has a first step

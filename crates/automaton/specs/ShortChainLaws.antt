@@ -1,5 +1,5 @@
--- A first chain is short: it has at most as many steps as the expression has letters, times n. A chain whose run comes twice by one record and
--- state can be shortened, and there are only so many of both.
+-- A first chain is short: it has at most as many steps as the expression has letters, times n. A chain can be shortened if its run comes to one record in
+-- one state twice, and there are no more records and states than that.
 --   distinct-few    different numbers below k are at most k
 --   first-short     length ss ≤ letters e * n for the first chain ss
 --   chains-63       so at most 63 × n for an expression within the limits

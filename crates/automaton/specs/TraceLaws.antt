@@ -1,4 +1,4 @@
--- Laws of traces: mapped, joined and reversed; and where the positions of an expression's fragment lie.
+-- Laws of traces: how they are mapped, joined and reversed, and where the positions of an expression's fragment lie.
 --   trace-map      a trace of a fragment is one of any whose letters and follows have all of its own
 --   trace-join     two traces as one, where a position of the second follows the end of the first
 --   trace-reversed, trace-forth

@@ -1,4 +1,4 @@
--- The walk forward: a smallest step before a best walk is a best walk, and the best walk from the start is the first chain.
+-- Laws of the walk forward: a smallest step and then a best walk are a best walk, and the best walk from the start is the first chain.
 --   best-more, best-none
 --                   best walks made from their end
 --   answers-walk    a chain that answers is a walk from the start

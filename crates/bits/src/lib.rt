@@ -1,4 +1,5 @@
-// Bits in slices of 64-bit words: bit p is bit p % 64 of word p / 64.
+// These functions read, set, count and find bits in slices of 64-bit words: bit p is bit p % 64 of word p / 64.
+// What they promise is stated by `bitAt` and `onesBelow` of crate k2, and by specs/BitSets.antt.
 ghost use mathlib.Core.Path.{_≡_};
 ghost use Prim.Native.Nat.{_+_, _*_, _/_, _%_, _^_, _<_, _≤_, min};
 ghost use lib.ListN.{length, replicate};

@@ -1,5 +1,5 @@
--- Cases of the plain book: the edits of the sample (S7.8), each number from 2 to 8, 17 and 18 with the first cause in order winning, what is not held, closing
--- up with its 21 and 13, 257 edits and 257 undos, and a full register.
+-- Cases of the plain book, by computation. They are the edits of the sample (S7.8); each number from 2 to 8, 17 and 18, where the first cause in order wins;
+-- what is not held; closing up, with 21 and 13; 257 edits and 257 undos; and a full register.
 --   adds, removes, locks, unlocks, withdraws, reinstates
 --                   the calls, in short
 --   fresh-1         a register has 1 to 1,024 records

@@ -1,5 +1,5 @@
-// The numbers of the causes of a refusal, and the limits, by name: for the code of every crate above.
-// `numbers` and `limits` are what shows that each is the number, and the limit, that specs/Causes.antt has.
+// The numbers of the causes of a refusal, and the limits, have their names here, for the code of every crate above.
+// The contracts of `numbers` and `limits` say that each is the one that specs/Causes.antt has.
 ghost use mathlib.Core.Path.{_≡_};
 ghost use mathlib.Core.List.{map, [], _∷_};
 ghost use Rattle.book.specs.Causes.{number, allCauses, maxRecords, labels, maxLinks, maxHeld, maxBytes, maxLetters, maxDepth};

@@ -1,6 +1,6 @@
-// The program of the dating register: frames on standard input, lines on standard output.
+// The program of the dating register reads frames from standard input and writes lines to standard output.
 // What a frame does and prints, where it ends and where a run ends, is proved of session::following and session::step, against
-// crates/session/specs/Program.antt; here bytes are only read and written.
+// crates/session/specs/Program.antt. Here bytes are only read and written.
 use libc::STDERR_FILENO;
 use libc::STDIN_FILENO;
 use libc::STDOUT_FILENO;

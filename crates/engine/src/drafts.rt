@@ -1,4 +1,4 @@
-// A draft: a list of edits and undos, as words of a history, made all or none.
+// A draft is a list of edits and undos, as words of a history, that are made all or none. What is promised is stated in crate register (specs/Drafts.antt).
 ghost use Rattle.register.specs.Drafts.{Drafts};
 use register::Applied;
 use register::Register;

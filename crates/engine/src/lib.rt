@@ -1,4 +1,4 @@
-// The dating register: the calls that programs make. A register is a value; an edit hands the next one back, and a question changes nothing.
+// The dating register: this crate has the calls that programs make. A register is a value: an edit hands the next one back, and a question changes nothing.
 // Every call takes any contents and any arguments, and what it promises is the whole of what it does: the answer, and everything that it was lent.
 // previews.rt has the preview of an edit, drafts.rt a list of edits made all or none; the questions and the tree calls are those of the crates below.
 mod drafts;

@@ -1,4 +1,4 @@
-// A preview: one edit or undo, and one pair question, answered as if the edit were made. The register is a value, so it and its held edits stay as they are.
+// A preview answers one pair question as if one edit or undo were made. The register is a value, so it and its held edits stay as they are.
 // What is promised is stated in specs/Previews.antt.
 ghost use lib.ListN.{length};
 ghost use Rattle.register.specs.Calls.{callOf};

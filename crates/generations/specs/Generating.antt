@@ -1,4 +1,4 @@
--- What the call promises.
+-- What the call `generations` promises.
 --   outcomeOf r l   the outcome that the answer r says, with its words in the first of the list l
 --   generationsCounted r
 --                   the answer as one that counts: how many numbers, or how many steps of the loop, or refused

@@ -1,4 +1,5 @@
-// Labels: whether one is out of range, their set as the bits of a number, the links that have one of them, and the text of the loops over these.
+// These functions work on labels: they tell whether one is out of range, and give their set as the bits of a number, the links that have one of them, and the
+// text of the loops over those links.
 ghost use mathlib.Core.Path.{_≡_};
 ghost use mathlib.Core.Bool.{false};
 ghost use Prim.Native.Nat.{_≤_};

@@ -1,5 +1,5 @@
-// Generations: the length of the longest run of links of some labels that ends at each record; or, if some record can return to itself over such links,
-// the first loop of the smallest that can.
+// Generations: the call gives the length of the longest run of links of some labels that ends at each record. If some record can return to itself over such
+// links, it gives the first loop of the smallest that can. What it promises is stated in specs/Generating.antt.
 // This file has what a caller sees. labels.rt has the labels and their links, depths.rt the depth of each record.
 mod depths;
 mod labels;

@@ -1,4 +1,4 @@
-// Union, product and transposition: the result is left in the first relation of the part, and the second is the right operand or scratch.
+// Union, product and transposition leave their result in the first relation of the part. The second is the right operand, or scratch.
 use crate::row::merge;
 use crate::row::next;
 use crate::row::put;

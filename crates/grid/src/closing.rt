@@ -1,8 +1,8 @@
-// The closure of the first relation of a part, in place, record by record: each row is closed by a search over the rows as they are, where the row
-// of a record that is closed stands for all that it leads to. Records whose rows are empty count as seen from the first, so that a search passes over
-// them in whole words.
-// Marks, a bit each in three parts of 1,024: mark x says that row x is closed, mark SEEN + x that the search in depth has seen it, and mark 2 * SEEN + x
-// that it is empty.
+// The first relation of a part is closed here, in place, record by record. Each row is closed by a search over the rows as they are; the row of a record that
+// is closed already stands for all that it leads to. A record whose row is empty counts as seen from the first, so that a search passes over such records in
+// whole words.
+// There are three parts of 1,024 marks, a bit each. Mark x says that row x is closed, mark SEEN + x that the search in depth has seen it, and mark
+// 2 * SEEN + x that it is empty.
 use crate::row::merge;
 use crate::words::above;
 use crate::words::lowest;

@@ -1,4 +1,4 @@
-// The list of the first relation of a part, row by row, word by word.
+// The pairs of the first relation of a part are listed here, row by row and word by word.
 use crate::PAIR_UNIT;
 use crate::words::above;
 use crate::words::cut;

@@ -1,4 +1,4 @@
-// Pairs put into the first relation of a part: those of links by their labels, and each record in use joined to itself.
+// Pairs are put into the first relation of a part here: those of links, by their labels, and each record in use joined to itself.
 use crate::PAIR_UNIT;
 use crate::row::put;
 ghost use mathlib.Core.Path.{_≡_};

@@ -1,4 +1,4 @@
-// One row: a word or another row put in, the next column found. Word c of a row stands at its place + c.
+// These functions work on one row: they put a word or another row into it, and find its next column. Word c of a row stands at its place + c.
 use crate::words::above;
 use crate::words::join;
 use crate::words::lowest;

@@ -1,4 +1,4 @@
-// The first relation of a part spread to rows of 1,024 bits, as crate `rows` has them.
+// The first relation of a part is spread here to rows of 1,024 bits, as crate `rows` has them.
 use crate::words::above;
 use crate::words::count;
 use crate::words::cut;

@@ -1,4 +1,4 @@
-// The bits of one word: the lowest, the next above one, and a word put into another.
+// These functions work on one word: they find its lowest bit, or the next above one, and put a word into another.
 ghost use mathlib.Core.Path.{_≡_};
 ghost use Prim.Native.Nat.{ℕ, _+_, _*_, _≤_, _<_, max, min};
 ghost use lib.Dec.{ltb};

@@ -1,4 +1,4 @@
--- Laws of sizes: of `fullSize`, of `compacted`, and D as the words of a full tree.
+-- Laws of sizes: those of `fullSize` and of `compacted`, and that D is the words of a full tree.
 --   fullSize-last, fullSize-four, fullSize-power, fullSize-next
 --                  the bits of a full tree: level by level, in fours, as a power, with one level more
 --   square-power, four-most, fullSize-most

@@ -1,4 +1,4 @@
--- Laws of trees: the tree of a set tells the set, and the tree of a transpose.
+-- Laws of trees: the tree of a set tells the set, and what the quarters of a transposed square are.
 --   tree-bits, treeWords-bits
 --                  the bits of a tree are 0 and 1, and its words have them
 --   treeWords-tell, treeBits-tell

@@ -1,4 +1,4 @@
--- Laws of the digits of a word: of a remainder, of a shift, the lowest that is set; and a law over a table of numbers. Assumes nothing.
+-- Laws of the digits of a word: those of a remainder and of a shift, and the lowest that is set. One law is of a table of numbers. Assumes nothing.
 use mathlib.Core.Path.{_≡_, refl, sym, ap, _∙_}
 use mathlib.Core.Bool.{Bool, true, false}
 use Prim.Native.Nat.{ℕ, zero, suc, _+_, _-_, _*_, _/_, _%_, _^_, _≤_, _<_}

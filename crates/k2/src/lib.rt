@@ -1,5 +1,5 @@
-// Sets of pairs and their k2-trees, as definitions and laws under specs/; in code the sizes of a tree for n records: its height, the bits of a full
-// one, and D, the words of a full one.
+// The definitions under specs/ say what sets of pairs and their k2-trees are; their laws stand beside them. The code gives the sizes of a tree for n records:
+// its height, the bits of a full one, and D, the words of a full one. They are defined in specs/Trees.antt and specs/Heap.antt.
 ghost use mathlib.Core.Path.{_≡_};
 ghost use Prim.Native.Nat.{_^_, _≤_};
 ghost use Rattle.book.specs.Causes.{maxRecords};

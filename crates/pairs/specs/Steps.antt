@@ -1,4 +1,4 @@
--- What the inner functions promise.
+-- What the inner functions of pair questions by trees promise.
 --   Taking g ws work u y S q st
 --                   of a graph whose records in use have the bits u: the item y takes q off the stack S, whose operands stand for st; its value is the term's,
 --                   and the operands that stay stand for the rest

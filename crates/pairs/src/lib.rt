@@ -1,5 +1,5 @@
-// Pair questions by trees: an expression's code is run on a stack of operands, whose k2-trees lie one after another in the lent work. The value of its last
-// number is left in rows of bits, whose pairs are counted and listed.
+// Pair questions by trees: the code of an expression is run on a stack of operands, whose k2-trees lie one after another in the lent work. The value of its
+// last number is left in rows of bits, whose pairs are counted and listed. What a question promises is stated in crate query (specs/Asking.antt).
 ghost use mathlib.Core.Path.{_≡_};
 ghost use mathlib.Core.List.{List};
 ghost use Prim.Native.Nat.{ℕ, _*_, _-_, _<_, _≤_};

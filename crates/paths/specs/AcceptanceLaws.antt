@@ -1,4 +1,4 @@
--- Whether a word is a word of an expression, computed.
+-- Whether a word is a word of an expression is computed here.
 --   accepts e w     not 0 where w is a word of e, else 0
 --   accepts-words, words-accepts
 --                   that it says so exactly of the words of e

@@ -1,4 +1,4 @@
--- The order of chains: total, transitive, and no two different lists of step words are each not after the other.
+-- Laws of the order of chains: it is total and transitive, and two lists of step words that are each not after the other are the same.
 --   before-back, before-self, not-after-then
 --                  the order at the first step, of a list with itself, and from one list over a second to a third
 --   before-both, not-after-both

@@ -1,4 +1,4 @@
--- Closing up renames: what a question gives of the closed book is what it gave of the book before, with the records renamed.
+-- Laws of closing up and the questions: what a question gives of the closed book is what it gave of the book before, with the records renamed.
 --   closing-pairs   every pair question, with work enough for the old n: how many pairs there are, and the first of them, renamed
 --   closing-chain   every chain question between records in use, with work enough for the old n: its reply and its outcome, renamed
 --   closing-none    such a question has no chain after exactly if it had none before

@@ -1,4 +1,4 @@
--- If a pair has a chain it has a first one: found by looking at every chain of at most so many steps. This is no engine's search.
+-- If a pair has a chain it has a first one. It is found by looking at every chain of at most so many steps; no engine searches so.
 --   best-is            the best of some lists of steps, computed
 --   in-walks, in-walks-to, walks-in, walks-to-in, end-is
 --                      the chains of so many steps, and of at most so many, are those listed

@@ -1,4 +1,4 @@
--- The computed list of pairs is the answer of a pair question, and nothing else is; what a book after a history is as a graph.
+-- The computed list of pairs is the answer of a pair question, and no other list is. Other laws here say what the graph of a book after a history is.
 --   pairs-are       pairs g e ascends, and its members are exactly the words of the pairs that have a chain
 --   pairs-only      no other list is so
 --   first-part      of an ascending list, every word of the first part is smaller than every other

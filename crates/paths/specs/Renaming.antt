@@ -1,4 +1,4 @@
--- Records renamed, in what a question gives.
+-- What a question gives, with its records renamed.
 --   renamedPair f w a pair's word with both records renamed: x is called f x
 --   renamedStep f w a step's word with the record reached renamed
 --   renamedReply f t, renamedOutcome f o

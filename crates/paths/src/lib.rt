@@ -1,1 +1,1 @@
-// Expressions, chains and relations, as definitions and laws under specs/. No code.
+// This crate has no code. Its definitions under specs/ say what expressions, words, chains and relations are, and what the two questions answer.

@@ -1,4 +1,5 @@
-// The tables of an expression's automaton, as sets of bits, from its postfix code.
+// The tables of an expression's automaton are made here, as sets of bits, from its postfix code. What they are is stated by `Masked` of crate automaton;
+// specs/Builds.antt has the tables while they are made.
 ghost use mathlib.Core.Path.{_≡_};
 ghost use mathlib.Core.List.{List, _∷_};
 ghost use Prim.Native.Nat.{ℕ, _+_, _<_, _≤_};

@@ -1,4 +1,4 @@
-// Chain questions over small registers, each printed with its answer as the program prints it.
+// Asks chain questions of small registers, and prints each with its answer, as the program prints it.
 ghost use Prim.Native.Nat.{_≤_};
 ghost use lib.ListN.{length};
 use chains::ChainAnswer;

@@ -1,6 +1,6 @@
-// Runs the register's calls and prints the answers: the edits of the sample (S7.8), as calls and as words, closings up in a history, a register kept as
-// words, every refusal that a register can give, a record withdrawn and reinstated, 257 edits with 257 undos, and a register filled to 4,096 links with one
-// more, of which a removed link's space is used again.
+// Makes the register's calls and prints the answers. It makes the edits of the sample (S7.8), as calls and as words, and closes up in a history. It keeps a
+// register as words, and comes upon every refusal that a register can give. It withdraws a record and reinstates it, makes 257 edits and 257 undos, and fills
+// a register with 4,096 links: one more is refused, and the space of a removed link is used again.
 use libc::STDOUT_FILENO;
 use register::Answer;
 use register::Outcome;

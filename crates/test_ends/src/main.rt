@@ -1,4 +1,4 @@
-// Questions for the ends and the starts of a record over small registers, each printed with its answer.
+// Asks for the ends and the starts of records of small registers, and prints each question with its answer.
 use answers::Counted;
 use register::Register;
 

@@ -1,5 +1,5 @@
-// The inner tree operations for a Rust program: what `rt staticlib test_trees` exports, to be tested and measured. Each promises what `operate` of `tree`
-// does of its term (specs/Terms.antt).
+// Exports the inner tree operations (`rt staticlib test_trees`) to a Rust program that tests and measures them. Each promises what `operate` of crate tree
+// promises of its term (specs/Terms.antt).
 use packing::Sense;
 use tree::Operand;
 use tree::Operation;

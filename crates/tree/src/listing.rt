@@ -1,4 +1,4 @@
-// The pairs of rows listed.
+// The pairs that rows of bits have are listed here.
 ghost use mathlib.Core.Path.{_≡_};
 ghost use Prim.Native.Nat.{_≤_};
 ghost use lib.ListN.{length};

@@ -1,4 +1,5 @@
-// An operation on operands in parts of the lent work: of each a k2-tree, and beside it the links of its letters, read with one sense.
+// An operation takes operands that lie in a part of the lent work. Each is a k2-tree with the links of its letters beside it, read with one sense.
+// What an operation promises is stated in specs/Inner.antt.
 use packing::Sense;
 ghost use mathlib.Core.Path.{_≡_};
 ghost use mathlib.Core.Bool.{true};
