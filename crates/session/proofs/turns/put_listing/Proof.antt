@@ -15,16 +15,18 @@ slice-aggregate-put-pairs c = sym (length-take-le _ _ (c .before .pairs-shown .e
 
 put-pairs-requires : tie.Need-put-pairs-requires
 put-pairs-requires c κs =
-    let p = c .before .before .before .before .before .before .before .before .pre in
+    let at-match-keys1 = c .before .before .before .before .before in
+    let p = at-match-keys1 .before .before .before .pre in
     let h = c .before .before .pairs-shown .ensures .0 in
     simp length-take (omega (arith, p, h))
 
 returns : tie.Need-returns
 unfolding outcomeText listing
 returns c =
-    let a = c .before .before .before .before .before .before .before .answer in
+    let after-pairs-shown = c .before .before .before .before .before in
+    let a = after-pairs-shown .before .before .answer in
     rw (a .given .1)
-    (wrote-as (ap (pairsText (a .given .0 .0)) (c .before .before .before .before .before .pairs-shown .ensures .1)) (c .before .before .put-pairs .ensures))
+    (wrote-as (ap (pairsText (a .given .0 .0)) (after-pairs-shown .pairs-shown .ensures .1)) (c .before .before .put-pairs .ensures))
 
 returns-2 : tie.Need-returns-2
 unfolding outcomeText listing

@@ -21,11 +21,15 @@ slice-aggregate-put-chain : tie.Need-slice-aggregate-put-chain
 slice-aggregate-put-chain c = sym (length-take-le _ _ (fits (c .before .before)))
 
 put-chain-requires : tie.Need-put-chain-requires
-put-chain-requires c κs = let p = c .before .before .before .before .before .before .before .pre .1 in simp length-take (omega arith)
+put-chain-requires c κs =
+    let at-match-keys1 = c .before .before .before .before in
+    let p = at-match-keys1 .before .before .before .pre .1 in simp length-take (omega arith)
 
 returns : tie.Need-returns
 unfolding outcomeText outcomeOf
-returns c = rw (c .before .before .before .before .before .before .answer .given .1) (c .before .before .put-chain .ensures)
+returns c =
+    let after-put-chain = c .before .before in
+    rw (after-put-chain .before .before .before .before .answer .given .1) (after-put-chain .put-chain .ensures)
 
 returns-2 : tie.Need-returns-2
 unfolding outcomeText outcomeOf
