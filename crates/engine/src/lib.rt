@@ -26,7 +26,7 @@ ghost use lib.ListN.{length};
 ghost use Rattle.book.specs.Book.{add, remove, lock, unlock, withdraw, reinstate, edit, undo};
 ghost use Rattle.register.specs.Calls.{callOf, Opens, Steps, Closes};
 ghost use Rattle.register.specs.Parting.{Without};
-ghost use Rattle.register.specs.Questions.{Sized, Listing, Locking, Withdrawal, Totals};
+ghost use Rattle.register.specs.Questions.{Sized, Listing, MarkList, Locking, Withdrawal, Totals};
 ghost use Rattle.paths.specs.Questions.{by-trees};
 ghost use Rattle.engine.specs.Inquiries.{Inquires};
 use answers::Counted;
@@ -119,6 +119,13 @@ pub fn links(register: Register) -> Links
     ensures { λ r. ⌜ Listing register r ⌝ }
 {
     register.links()
+}
+
+// The mark of each record.
+pub fn marks(register: Register) -> [u32; book::MAX_RECORDS]
+    ensures { λ r. ⌜ MarkList register r ⌝ }
+{
+    register.marks()
 }
 
 // The register without the links that touch a record; nothing is held then.

@@ -9,4 +9,6 @@ pub mod ProductLaws
 pub mod PairLaws
 pub mod ListingLaws
 pub mod TransposeLaws
+pub mod MeetLaws
+pub mod CountLaws
 pub mod SpreadLaws

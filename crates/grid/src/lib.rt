@@ -3,9 +3,10 @@
 // part of the work that begins with its left operand, and may use what stands after its operands.
 //
 // words.rt has the bits of one word, row.rt one row, putting.rt pairs put into a relation, algebra.rt union, product and transposition, closing.rt the
-// closure, listing.rt the list, spreading.rt the relation as rows of 1,024 bits.
+// closure, listing.rt the list, counting.rt how many pairs there are, spreading.rt the relation as rows of 1,024 bits.
 mod algebra;
 mod closing;
+mod counting;
 mod listing;
 mod putting;
 mod row;
@@ -17,10 +18,12 @@ pub use algebra::transpose;
 pub use algebra::unite;
 pub use closing::close;
 pub use closing::close_rows;
+pub use counting::count_pairs;
 pub use listing::list;
 pub use putting::put_diagonal;
 pub use putting::put_letters;
 pub use putting::start;
+pub use row::meets;
 pub use spreading::spread;
 
 // A pair word is from times this, and to.

@@ -1,12 +1,15 @@
-// These functions work on one row: they put a word or another row into it, and find its next column. Word c of a row stands at its place + c.
+// These functions work on one row: they put a word or another row into it, find its next column, and find a column that another row has too. Word c of a row
+// stands at its place + c.
 use crate::words::above;
 use crate::words::join;
 use crate::words::lowest;
 ghost use mathlib.Core.Logic.{_⊎_};
 ghost use Prim.Native.Nat.{ℕ, _+_, _*_, _≤_, _<_};
 ghost use lib.ListN.{length};
+ghost use Rattle.k2.specs.Bits.{bitAt};
+ghost use Rattle.bits.specs.BitSets.{both};
 ghost use Rattle.grid.specs.Grid.{rowOf};
-ghost use Rattle.grid.specs.Steps.{Lowest, wordAt, Merged};
+ghost use Rattle.grid.specs.Steps.{Lowest, wordAt, Merged, Meets};
 
 // A word put into word c of the row at place b, whose mask is number t.
 pub fn put(cells: &mut [u64], masks: &mut [u16], t: usize, b: usize, c: usize, v: u64)
@@ -79,4 +82,20 @@ pub fn next(cells: &[u64], mask: u16, b: usize, w: usize, y: usize) -> usize
         }
     }
     later(cells, mask, b, w, c)
+}
+
+// Whether some column of a row is in another, whose words are all in use.
+pub fn meets(cells: &[u64], mask: u16, b: usize, w: usize, row: &[u64]) -> bool
+    requires { ⌜ (w ≤ 16) × (b + w ≤ length (now cells)) × (w ≤ length (now row)) ⌝ }
+    ensures { λ t. ⌜ Meets (both (rowOf (now (cells .entry)) b mask) (bitAt (now (row .entry)))) (w * 64) t ⌝ }
+{
+    let words = mask as u64;
+    let mut c = lowest(words);
+    while c < w {
+        if cells[b + c] & row[c] != 0 {
+            return true;
+        }
+        c = above(words, c);
+    }
+    false
 }

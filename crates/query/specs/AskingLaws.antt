@@ -9,9 +9,11 @@
 --   tells-same      equal outcomes are told alike
 --   engines-outcome with both works enough both engines have the same outcome
 --   engines-same    asked of a register that represents a book, with both works enough: both give the same answer and the same list
---   relation-refused, relation-short, relation-few, relation-paired
---                   the outcome of the relation as rows: the verdict's number; 12 for the work or for the rows; how many pairs there are
---   relates-faulty, relates-short, relates-few, relates-made
+--   Asked, asked-enough
+--                   what is so where a pair question is not refused
+--   relation-refused, relation-few, relation-paired
+--                   the outcome of the relation as rows: refused as the pair question is; 12 for the rows; how many pairs there are
+--   relates-refused, relates-made
 --                   so it promises of any register: refused, or the rows made
 --   leaves-faulty, leaves-short, leaves-made
 --                   the relation left where it was made: refused, or made
@@ -19,7 +21,8 @@
 --   whole-contained what is handed over whole is contained in its list
 -- Assumes nothing.
 use mathlib.Core.Path.{_≡_, refl, sym, ap, _∙_, subst}
-use mathlib.Core.List.{List, _++_}
+use mathlib.Core.Bool.{Bool, true, false, _||_}
+use mathlib.Core.List.{List, [], _∷_, _++_}
 use Prim.Native.Nat.{ℕ, zero, suc, _≤_, _<_}
 use native.Mathlib.Decide.{decLt}
 use native.Mathlib.Omega.{arith}
@@ -133,30 +136,49 @@ module _ (d d′ : Engine) (b : Book) (work work′ : ℕ) (h : workFor d (b .n)
       → AsksFor d r v work before after a → AsksFor d′ r v work′ before after′ a′ → (a ≡ a′) × (after ≡ after′)
   engines-same r v before after after′ a a′ R A A′ = tells-same (engines-outcome v (length before)) (A .book b R) (A′ .book b R)
 
+-- ---- where a pair question has no cause against it, the text is an expression and the work enough
+pub record Asked (b : Book) (v : Verdict) (work : ℕ) : Type 0 where
+  pub syntax : Expr
+  pub is : v ≡ accepted syntax
+  pub enough : pairsWork (b .n) ≤ work
+
+pub asked-enough : (b : Book) (v : Verdict) (work : ℕ) → firstNumber (pairsCauses by-trees b v work) ≡ 0 → Asked b v work
+unfolding pairsCauses verdictCause firstNumber number
+asked-enough b (accepted e) work q = go (decLt work (pairsWork (b .n)))
+  where
+    go : Dec (work < pairsWork (b .n)) → Asked b (accepted e) work
+    go (yes h) = absurd (let z : _≡_ {A = ℕ} (pick (ltb work (pairsWork (b .n))) 12 0) 12 = rw (lt-ltb work (pairsWork (b .n)) h) refl in omega (arith, q, z))
+    go (no h) = record { syntax = e; is = refl; enough = omega arith }
+asked-enough b long work q = absurd (let z : _≡_ {A = ℕ} 10 0 = q in omega arith)
+asked-enough b outside work q = absurd (let z : _≡_ {A = ℕ} 9 0 = q in omega arith)
+asked-enough b large work q = absurd (let z : _≡_ {A = ℕ} 10 0 = q in omega arith)
+
 -- ---- the relation as rows
 module _ (b : Book) (work rows : ℕ) where
-  relation-refused : (v : Verdict) (k : ℕ) → readAnswer v ≡ Faulty k → relationAnswer b v work rows ≡ refused k
-  unfolding relationAnswer relationCauses verdictCause firstNumber number readAnswer
-  relation-refused (accepted e) k q = absurd (let z : _≡_ {A = ℕ} 0 1 = cc in omega arith)
-  relation-refused long k q = let z : 10 ≡ k = cc in ap refused z
-  relation-refused outside k q = let z : 9 ≡ k = cc in ap refused z
-  relation-refused large k q = let z : 10 ≡ k = cc in ap refused z
-
-  pub relation-short : (e : Expr) → work < pairsWork (b .n) → relationAnswer b (accepted e) work rows ≡ refused 12
-  unfolding relationAnswer relationCauses verdictCause firstNumber number
-  relation-short e h = rw (lt-ltb work (pairsWork (b .n)) h)
+  -- refused as the pair question is
+  pub relation-refused : (v : Verdict) (k : ℕ) → k ≡ firstNumber (pairsCauses by-trees b v work) → 0 < k → relationAnswer b v work rows ≡ refused k
+  unfolding relationAnswer relationCauses pairsCauses verdictCause firstNumber number
+  relation-refused (accepted e) k q h = go (ltb work (pairsWork (b .n))) q
+    where
+      go : (t : Bool) → k ≡ firstNumber ((short-work, t) ∷ [])
+          → unless (firstNumber ((short-work, t || ltb rows rowWords) ∷ [])) (paired (length (pairsOf b (accepted e))) (pairsOf b (accepted e))) ≡ refused k
+      go true q = ap refused (sym q)
+      go false q = absurd (omega arith)
+  relation-refused long k q h = ap refused (sym q)
+  relation-refused outside k q h = ap refused (sym q)
+  relation-refused large k q h = ap refused (sym q)
 
   module _ (e : Expr) (h : pairsWork (b .n) ≤ work) where
-    relation-few : rows < rowWords → relationAnswer b (accepted e) work rows ≡ refused 12
+    pub relation-few : rows < rowWords → relationAnswer b (accepted e) work rows ≡ refused 12
     unfolding relationAnswer relationCauses verdictCause firstNumber number
     relation-few l = rw (le-ltb work (pairsWork (b .n)) h, lt-ltb rows rowWords l)
 
-    pub relation-paired : rowWords ≤ rows → relationAnswer b (accepted e) work rows ≡ paired (length (pairs (asked b) e)) (pairs (asked b) e)
+    relation-paired : rowWords ≤ rows → relationAnswer b (accepted e) work rows ≡ paired (length (pairs (asked b) e)) (pairs (asked b) e)
     unfolding relationAnswer relationCauses verdictCause firstNumber number pairsOf
     relation-paired l = rw (le-ltb work (pairsWork (b .n)) h, le-ltb rows rowWords l)
 
 module _ (r : Register) (v : Verdict) (work : ℕ) (before : List ℕ) where
-  relates-refused : (k : ℕ) → Caused k → ((b : Book) → Represents r b → relationAnswer b v work (length before) ≡ refused k)
+  pub relates-refused : (k : ℕ) → Caused k → ((b : Book) → Represents r b → relationAnswer b v work (length before) ≡ refused k)
       → RelatesFor r v work before before (Refused k)
   unfolding countOf
   relates-refused k z f = record {
@@ -164,39 +186,23 @@ module _ (r : Register) (v : Verdict) (work : ℕ) (before : List ℕ) where
     book = λ b R. record { answer = ap countOf (sym (f b R)); rows = λ e s i q. absurd (let y : _≡_ {A = ℕ} 0 1 = cc in omega arith) };
   }
 
-  pub relates-faulty : (k : ℕ) → readAnswer v ≡ Faulty k → RelatesFor r v work before before (Refused k)
-  relates-faulty k e = relates-refused k (faulty-caused v k e) (λ b R. relation-refused b work (length before) v k e)
-
-  module _ (e : Expr) (is : v ≡ accepted e) (n : ℕ) (size : (b : Book) → Represents r b → n ≡ b .n) where
-    pub relates-short : work < pairsWork n → RelatesFor r v work before before (Refused 12)
-    unfolding number
-    relates-short h =
-        relates-refused 12 (short-work, refl) (λ b R. ap (λ (w : Verdict). relationAnswer b w work (length before)) is
-        ∙ relation-short b work (length before) e (subst (λ (i : ℕ). work < pairsWork i) (size b R) h))
-
-    pub relates-few : pairsWork n ≤ work → length before < rowWords → RelatesFor r v work before before (Refused 12)
-    unfolding number
-    relates-few h l =
-        relates-refused 12 (short-work, refl) (λ b R. ap (λ (w : Verdict). relationAnswer b w work (length before)) is
-        ∙ relation-few b work (length before) e (subst (λ (i : ℕ). pairsWork i ≤ work) (size b R) h) l)
-
   -- the rows of an expression, and how many pairs it has, in the first words of a list
-  pub relates-made : (e : Expr) (n t : ℕ) (part : List ℕ) → v ≡ accepted e → ((b : Book) → Represents r b → n ≡ b .n)
-      → pairsWork n ≤ work → rowWords ≤ length before → length part ≡ rowWords → t ≤ maxPairs
-      → ((b : Book) → Represents r b → (bitAt part ≡ flat (cells (asked b) e)) × (t ≡ length (pairs (asked b) e)))
+  pub relates-made : (t : ℕ) (part : List ℕ) → (asks : (b : Book) → Represents r b → Asked b v work)
+      → rowWords ≤ length before → length part ≡ rowWords → t ≤ maxPairs
+      → ((b : Book) (R : Represents r b) → (bitAt part ≡ flat (cells (asked b) (asks b R .syntax))) × (t ≡ length (pairs (asked b) (asks b R .syntax))))
       → RelatesFor r v work before (part ++ drop rowWords before) (Count t)
   unfolding countOf counted
-  relates-made e n t part d size h l wide few made = record {
+  relates-made t part asks l wide few made = record {
     contained = contained-count maxPairs rowWords before (part ++ drop rowWords before) t few (drop-at part (drop rowWords before) rowWords wide);
     book = λ b R.
         let m = made b R in
+        let e = asks b R .syntax in
         let o : relationAnswer b v work (length before) ≡ paired (length (pairs (asked b) e)) (pairs (asked b) e) =
-        ap (λ (x : Verdict). relationAnswer b x work (length before)) d
-        ∙ relation-paired b work (length before) e (subst (λ (i : ℕ). pairsWork i ≤ work) (size b R) h) l in
+        ap (λ (x : Verdict). relationAnswer b x work (length before)) (asks b R .is) ∙ relation-paired b work (length before) e (asks b R .enough) l in
         record {
           answer = ap Count (m .1) ∙ ap countOf (sym o);
           rows =
-              λ f q i p. let y : e ≡ f = accepted-same (sym d ∙ q) in
+              λ f q i p. let y : e ≡ f = accepted-same (sym (asks b R .is) ∙ q) in
               ap bitAt (take-at part (drop rowWords before) rowWords wide) ∙ m .0 ∙ ap (λ (x : Expr). flat (cells (asked b) x)) y;
         };
   }
@@ -218,25 +224,25 @@ module _ (b : Book) (work : ℕ) where
   unfolding pairsCauses verdictCause firstNumber number answered
   number-none e h = rw (le-ltb work (pairsWork (b .n)) h) refl
 
-module _ (r : Register) (v : Verdict) (work : ℕ) (left : ℕ → Cells) where
-  leaves-refused : (k : ℕ) → Caused k → ((b : Book) → Represents r b → Refused k ≡ answered (firstNumber (pairsCauses by-trees b v work)) (b .n))
-      → Leaves r v work left (Refused k)
+module _ (known : Book → Type 0) (v : Verdict) (work : ℕ) (left : ℕ → Cells) where
+  leaves-refused : (k : ℕ) → Caused k → ((b : Book) → known b → Refused k ≡ answered (firstNumber (pairsCauses by-trees b v work)) (b .n))
+      → Leaves known v work left (Refused k)
   leaves-refused k z f = record {
     caused = λ j q. let y : k ≡ j = cc in subst Caused y z;
     book = λ b R. record { answer = f b R; value = λ e s n q. absurd (let y : _≡_ {A = ℕ} 0 1 = cc in omega arith) };
   }
 
-  pub leaves-faulty : (k : ℕ) → readAnswer v ≡ Faulty k → Leaves r v work left (Refused k)
+  pub leaves-faulty : (k : ℕ) → readAnswer v ≡ Faulty k → Leaves known v work left (Refused k)
   leaves-faulty k e = leaves-refused k (faulty-caused v k e) (λ b R. number-faulty b work v k e)
 
-  module _ (e : Expr) (is : v ≡ accepted e) (n : ℕ) (size : (b : Book) → Represents r b → n ≡ b .n) where
-    pub leaves-short : work < pairsWork n → Leaves r v work left (Refused 12)
+  module _ (e : Expr) (is : v ≡ accepted e) (n : ℕ) (size : (b : Book) → known b → n ≡ b .n) where
+    pub leaves-short : work < pairsWork n → Leaves known v work left (Refused 12)
     unfolding number
     leaves-short h =
         leaves-refused 12 (short-work, refl) (λ b R. number-short b work e (subst (λ (i : ℕ). work < pairsWork i) (size b R) h)
         ∙ ap (λ (w : Verdict). answered (firstNumber (pairsCauses by-trees b w work)) (b .n)) (sym is))
 
-    pub leaves-made : pairsWork n ≤ work → ((b : Book) → Represents r b → left n ≡ cells (asked b) e) → Leaves r v work left (Count n)
+    pub leaves-made : pairsWork n ≤ work → ((b : Book) → known b → left n ≡ cells (asked b) e) → Leaves known v work left (Count n)
     leaves-made h made = record {
       caused = λ j q. absurd (let y : _≡_ {A = ℕ} 0 1 = cc in omega arith);
       book = λ b R. record {

@@ -1,5 +1,6 @@
 -- Laws of `without`: the loop over the words, and what the register then shows.
 --   linked-tally              as many words of links pass a test as links do
+--   copied-word, copied-gone  `links_apart`: a word that stays, and one that does not
 --   Keeping x ws ts us vs k i
 --                             the first i words of ws are looked at, and k of them stay at the front of vs
 --   keeping-none, keeping-word, keeping-gone, keeping-all
@@ -16,23 +17,22 @@ use native.Mathlib.Omega.{arith}
 use native.Mathlib.Numerals.{add-one}
 use lib.Dec.{eqb}
 use lib.ListN.{length, take, drop, getD, set, drop-of-length-le}
-use lib.Seq.{getD-set-other, take-suc, take-suc-set, drop-cons, take-all, length-take-le}
+use lib.Seq.{getD-set-other, take-suc-set, drop-cons, take-all, take-at, set-split, length-take-le}
 use borrow.Author.Tests.{eqb-true, eq-eqb}
 use Rattle.book.specs.Basics.{pick, bit, In, here, there, has, without, tally}
 use Rattle.book.specs.Causes.{maxRecords}
 use Rattle.book.specs.Book.{Link, sameLink, Sheet, Book, present, total}
 use Rattle.book.specs.ListLaws.{in-none, in-front}
 use Rattle.book.specs.SetLaws.{eqb-test, sameLink-test, and-both, has-in, in-has, has-without, distinct-without}
-use Rattle.book.specs.Sheets.{Distinct, Fit}
-use Rattle.book.specs.TotalLaws.{tally-le, tally-without}
+use Rattle.book.specs.Sheets.{Distinct}
+use Rattle.book.specs.TotalLaws.{tally-without}
 use Rattle.links.specs.Links.{linkWord, linkOf, labelUnit, wordTotal, Linked}
 use Rattle.links.specs.Totals.{Lowered, TotalsOf}
 use Rattle.links.specs.LinkLaws.{word-link}
 use Rattle.register.specs.Marks.{freeMark, markOf}
 use Rattle.register.specs.Packed.{Shows, Piled}
 use Rattle.register.specs.Representation.{latest, packedOf, Represents}
-use Rattle.register.specs.PartingLaws.{filter-in, in-filter, length-filter, tally-filter, filter-append, rises-filter, has-filter, filter-has}
-use Rattle.register.specs.PartingLaws.{distinct-filter}
+use Rattle.register.specs.PartingLaws.{length-filter, tally-filter, filter-next, fit-without, linked-without}
 use Rattle.register.specs.Parting.{filter, apart, withoutLinks, withoutRecord}
 use Rattle.register.specs.Apart.{apartWord, Kept}
 use Rattle.register.specs.declared.Register.{Register}
@@ -80,6 +80,21 @@ linked-tally t (k ∷ ks) ws dk dw sound whole =
           r .1,
         )
 
+-- ---- words copied
+module _ (x : ℕ) (ws vs : List ℕ) (k i : ℕ) (e : take k vs ≡ filter (apartWord x) (take i ws)) (h : i < length ws) (l : k < length vs) where
+  abbrev w : ℕ
+  w = getD ws i 0
+
+  pub copied-word : apartWord x w ≡ true → take (k + 1) (set vs k w) ≡ filter (apartWord x) (take (i + 1) ws)
+  copied-word a =
+      ap (λ (j : ℕ). take j (set vs k w)) (add-one k) ∙ take-suc-set vs k w l ∙ ap (λ (m : List ℕ). m ++ (w ∷ [])) e
+      ∙ sym (filter-next (apartWord x) ws i true h a)
+
+  pub copied-gone : apartWord x w ≡ false → take k (set vs k w) ≡ filter (apartWord x) (take (i + 1) ws)
+  copied-gone a =
+      ap (take k) (set-split vs k w l) ∙ take-at (take k vs) _ k (length-take-le k vs (omega arith)) ∙ e ∙ sym (append-nil _)
+      ∙ sym (filter-next (apartWord x) ws i false h a)
+
 -- ---- the loop over the words
 -- the first i words are looked at, k of them stay; the words ahead are as they were
 pub record Keeping (x : ℕ) (ws ts us vs : List ℕ) (k i : ℕ) : Type 0 where
@@ -91,15 +106,6 @@ pub record Keeping (x : ℕ) (ws ts us vs : List ℕ) (k i : ℕ) : Type 0 where
 pub keeping-none : (x : ℕ) (ws ts vs : List ℕ) → ((j : ℕ) → j < length ws → getD vs j 0 ≡ getD ws j 0) → Keeping x ws ts ts vs 0 0
 unfolding filter
 keeping-none x ws ts vs a = record { low = omega arith; ahead = λ j _ h. a j h; words = refl; totals = λ f. f }
-
--- one word more: the words that stay, by the test
-filter-more : (x : ℕ) (ws : List ℕ) (i : ℕ) (b : Bool) → i < length ws → apartWord x (getD ws i 0) ≡ b
-    → filter (apartWord x) (take (i + 1) ws) ≡ filter (apartWord x) (take i ws) ++ pick b (getD ws i 0 ∷ []) []
-unfolding filter
-filter-more x ws i b h e =
-    ap (λ (j : ℕ). filter (apartWord x) (take j ws)) (add-one i) ∙ ap (filter (apartWord x)) (take-suc ws i 0 h)
-    ∙ filter-append (apartWord x) (take i ws) (getD ws i 0 ∷ [])
-    ∙ ap (λ (c : Bool). filter (apartWord x) (take i ws) ++ pick c (getD ws i 0 ∷ []) []) e
 
 tally-middle : (t : ℕ → Bool) (l : List ℕ) (w : ℕ) (m : List ℕ) → tally t (l ++ (w ∷ m)) ≡ bit (t w) + tally t (l ++ m)
 unfolding tally
@@ -131,7 +137,7 @@ module _ (x : ℕ) (ws ts us vs : List ℕ) (k i : ℕ) (K : Keeping x ws ts us 
       F = filter (apartWord x) (take i ws)
 
       more : filter (apartWord x) (take (i + 1) ws) ≡ F ++ (w ∷ [])
-      more = filter-more x ws i true h (ap (apartWord x) (sym word-is) ∙ a) ∙ ap (λ (v : ℕ). F ++ (v ∷ [])) (sym word-is)
+      more = filter-next (apartWord x) ws i true h (ap (apartWord x) (sym word-is) ∙ a) ∙ ap (λ (v : ℕ). F ++ (v ∷ [])) (sym word-is)
 
       same : filter (apartWord x) (take (i + 1) ws) ++ drop (i + 1) ws ≡ F ++ drop i ws
       same =
@@ -153,7 +159,7 @@ module _ (x : ℕ) (ws ts us vs : List ℕ) (k i : ℕ) (K : Keeping x ws ts us 
       F = filter (apartWord x) (take i ws)
 
       same : filter (apartWord x) (take (i + 1) ws) ≡ F
-      same = filter-more x ws i false h (ap (apartWord x) (sym word-is) ∙ a) ∙ append-nil F
+      same = filter-next (apartWord x) ws i false h (ap (apartWord x) (sym word-is) ∙ a) ∙ append-nil F
 
       fewer : (j : ℕ) → wordTotal j (F ++ drop i ws) ≡ bit (eqb (w / labelUnit) j) + wordTotal j (filter (apartWord x) (take (i + 1) ws) ++ drop (i + 1) ws)
       fewer j =
@@ -183,37 +189,6 @@ module _ {self : Register} {b : Book} (h : Represents self b) (x : ℕ) where
 
   small : b .n ≤ maxRecords
   small = omega (arith, h .size, h .ranged .size)
-
-  left-fit : Fit (b .n) cutSheet
-  unfolding withoutLinks
-  left-fit =
-      let f = h .sheet .fit in
-      let in-it : (k : Link) → present cutSheet k ≡ true → present (b .sheet) k ≡ true = λ k p. has-filter sameLink-test (apart x) k (b .sheet .links) p .0 in
-      record {
-        links = λ k p. f .links k (in-it k p);
-        locks = f .locks;
-        ends = λ k p. f .ends k (in-it k p);
-        free = f .free;
-        withdrawn = f .withdrawn;
-        once = distinct-filter sameLink-test (apart x) (b .sheet .links) (f .once);
-        single = f .single;
-        apart = f .apart;
-        room = omega (arith, f .room, tally-le (apart x) (b .sheet .links), length-filter (apart x) (b .sheet .links));
-      }
-
-  left-linked : Linked (filter (apartWord x) ws) cutSheet
-  unfolding withoutLinks
-  left-linked = record {
-    ascending = rises-filter (apartWord x) ws (h .sheet .links .ascending);
-    sound = λ w i.
-        let r = filter-in (apartWord x) ws i in
-        let s = h .sheet .links .sound w (r .0) in
-        let e : linkOf w ≡ s .0 = ap linkOf (s .1) ∙ word-link small (h .sheet .fit .links (s .0) (s .2)) in
-        (s .0, s .1, filter-has sameLink-test (apart x) (s .0) (b .sheet .links) (s .2) (ap (apart x) (sym e) ∙ r .1));
-    whole = λ k p.
-        let r = has-filter sameLink-test (apart x) k (b .sheet .links) p in
-        in-filter (apartWord x) ws (h .sheet .links .whole k (r .0)) (ap (apart x) (word-link small (h .sheet .fit .links k (r .0))) ∙ r .1);
-  }
 
   -- as many words as links pass a test
   both-tally : (t : Link → Bool) → tally (λ w. t (linkOf w)) ws ≡ tally t (b .sheet .links)
@@ -263,9 +238,9 @@ without-represents {self} {b} x {r} l c h = record {
   where
     shown : Shows (b .n) (packedOf r) (withoutLinks x (b .sheet))
     shown = record {
-      links = subst (λ (k : List ℕ). Linked k (withoutLinks x (b .sheet))) (sym (c .kept .words)) (left-linked h x);
+      links = subst (λ (k : List ℕ). Linked k (withoutLinks x (b .sheet))) (sym (c .kept .words)) (linked-without x (small h x) (h .sheet .fit) _ (h .sheet .links));
       count = ap length (c .kept .words) ∙ left-count h x;
       totals = λ j. ap (wordTotal j) (c .kept .words) ∙ left-total h x j;
       marks = λ y. ap (λ (m : List ℕ). getD m y freeMark) (c .marks) ∙ h .sheet .marks y ∙ marks-same x (b .sheet) y;
-      fit = left-fit h x;
+      fit = fit-without x (small h x) (h .sheet .fit);
     }

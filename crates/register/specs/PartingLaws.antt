@@ -5,21 +5,31 @@
 --   rises-filter           an ascending list stays so
 --   has-filter, filter-has, absent-filter, distinct-filter
 --                          the members by the computed test; what is absent stays so, and what stands once still does
+--   filter-next            a list's filtered front, one member more
 --   present-without        a link is left if it was there and does not touch the record
+--   fit-without, linked-without
+--                          a fit sheet stays fit without the record's links, and the words of its links are those that do not touch the record
 -- Assumes nothing.
 use mathlib.Core.Path.{_≡_, refl, sym, ap, subst, _∙_}
 use mathlib.Core.Logic.{⊎-elim}
 use mathlib.Core.List.{List, [], _∷_, _++_}
 use mathlib.Core.Bool.{Bool, true, false, _&&_, true≢false}
-use Prim.Native.Nat.{ℕ, suc, _+_}
+use Prim.Native.Nat.{ℕ, suc, _+_, _≤_, _<_}
+use native.Mathlib.Numerals.{add-one}
 use native.Mathlib.Omega.{arith}
-use lib.ListN.{length}
+use lib.ListN.{length, take, getD}
+use lib.Seq.{take-suc}
 use Rattle.book.specs.Basics.{pick, bit, In, here, there, has, tally, Rises, ended, rises}
 use Rattle.book.specs.Book.{Link, Sheet, present}
+use Rattle.book.specs.Causes.{maxRecords}
 use Rattle.book.specs.ListLaws.{in-none, in-front, rises-from}
 use Rattle.book.specs.SetLaws.{EqualityTest, sameLink-test, has-in, in-has}
-use Rattle.book.specs.Sheets.{Distinct}
+use Rattle.book.specs.Sheets.{Distinct, Fit}
+use Rattle.book.specs.TotalLaws.{tally-le}
+use Rattle.links.specs.Links.{linkOf, Linked}
+use Rattle.links.specs.LinkLaws.{word-link}
 use Rattle.register.specs.Parting.{filter, apart, withoutLinks}
+use Rattle.register.specs.Apart.{apartWord}
 
 module _ {A : Type 0} (t : A → Bool) where
   pub filter-in : {x : A} (l : List A) → In x (filter t l) → In x l × (t x ≡ true)
@@ -70,6 +80,14 @@ module _ {A : Type 0} (t : A → Bool) where
       go true e = ap (λ (k : List A). x ∷ k) e
       go false e = e
 
+-- one member more of a list's front
+pub filter-next : (t : ℕ → Bool) (l : List ℕ) (i : ℕ) (b : Bool) → i < length l → t (getD l i 0) ≡ b
+    → filter t (take (i + 1) l) ≡ filter t (take i l) ++ pick b (getD l i 0 ∷ []) []
+unfolding filter
+filter-next t l i b h e =
+    ap (λ (j : ℕ). filter t (take j l)) (add-one i) ∙ ap (filter t) (take-suc l i 0 h) ∙ filter-append t (take i l) (getD l i 0 ∷ [])
+    ∙ ap (λ (c : Bool). filter t (take i l) ++ pick c (getD l i 0 ∷ []) []) e
+
 pub rises-filter : (t : ℕ → Bool) {m : ℕ} (l : List ℕ) → Rises m l → Rises m (filter t l)
 unfolding filter
 rises-filter t [] ended = ended
@@ -115,3 +133,34 @@ present-without x s k = go (present s k) refl (apart x k) refl
         none : (c : Bool) → present (withoutLinks x s) k ≡ c → c ≡ false
         none false e = refl
         none true e = absurd (true≢false (sym (has-filter sameLink-test (apart x) k (s .links) e .1) ∙ q))
+
+module _ {n : ℕ} (x : ℕ) {s : Sheet} (small : n ≤ maxRecords) (f : Fit n s) where
+  pub fit-without : Fit n (withoutLinks x s)
+  unfolding withoutLinks
+  fit-without =
+      let in-it : (k : Link) → present (withoutLinks x s) k ≡ true → present s k ≡ true = λ k p. has-filter sameLink-test (apart x) k (s .links) p .0 in
+      record {
+        links = λ k p. f .links k (in-it k p);
+        locks = f .locks;
+        ends = λ k p. f .ends k (in-it k p);
+        free = f .free;
+        withdrawn = f .withdrawn;
+        once = distinct-filter sameLink-test (apart x) (s .links) (f .once);
+        single = f .single;
+        apart = f .apart;
+        room = omega (arith, f .room, tally-le (apart x) (s .links), length-filter (apart x) (s .links));
+      }
+
+  pub linked-without : (ws : List ℕ) → Linked ws s → Linked (filter (apartWord x) ws) (withoutLinks x s)
+  unfolding withoutLinks
+  linked-without ws L = record {
+    ascending = rises-filter (apartWord x) ws (L .ascending);
+    sound = λ w i.
+        let r = filter-in (apartWord x) ws i in
+        let k = L .sound w (r .0) in
+        let e : linkOf w ≡ k .0 = ap linkOf (k .1) ∙ word-link small (f .links (k .0) (k .2)) in
+        (k .0, k .1, filter-has sameLink-test (apart x) (k .0) (s .links) (k .2) (ap (apart x) (sym e) ∙ r .1));
+    whole = λ k p.
+        let r = has-filter sameLink-test (apart x) k (s .links) p in
+        in-filter (apartWord x) ws (L .whole k (r .0)) (ap (apart x) (word-link small (f .links k (r .0))) ∙ r .1);
+  }

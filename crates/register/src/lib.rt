@@ -22,6 +22,7 @@ pub use history::WITHDRAW_KIND;
 pub use history::entry_of;
 pub use history::replay;
 pub use links::label_part;
+pub use parting::links_apart;
 pub use state::number_of;
 pub use words::STATE_WORDS;
 pub use words::edit_in;

@@ -1,4 +1,4 @@
-// The register without the links that touch a record. What it promises is stated in specs/Parting.antt.
+// The register, and the words of its links, without the links that touch a record. What the first promises is stated in specs/Parting.antt.
 use crate::Register;
 use crate::state::ranged;
 use links::from_of;
@@ -9,7 +9,7 @@ ghost use Prim.Native.Nat.{_/_, _≤_};
 ghost use lib.ListN.{length, take};
 ghost use Rattle.links.specs.Links.{labelUnit};
 ghost use Rattle.links.specs.Totals.{Lowered};
-ghost use Rattle.register.specs.Parting.{Without};
+ghost use Rattle.register.specs.Parting.{filter, Without};
 ghost use Rattle.register.specs.Apart.{apartWord, Kept};
 
 // Whether the link of a word does not touch the record.
@@ -29,6 +29,24 @@ fn lowered(totals: [u32; book::LABELS], word: u32) -> [u32; book::LABELS]
     let mut less = totals;
     lower_total(&mut less, word);
     less
+}
+
+// The words of links that do not touch the record, copied to the front of a list; how many they are.
+pub fn links_apart(links: &[u32], record: u16, to: &mut [u32]) -> usize
+    requires { ⌜ length (now links) ≤ length (now to) ⌝ }
+    ensures { λ r. ⌜ (r ≤ length (now (links .entry))) × (take r (now (to .exit)) ≡ filter (apartWord «record») (now (links .entry))) ⌝ }
+{
+    let mut kept = 0;
+    let mut i = 0;
+    while i < links.len() {
+        let word = links[i];
+        to[kept] = word;
+        if stands_apart(word, record) {
+            kept += 1;
+        }
+        i += 1;
+    }
+    kept
 }
 
 // What is left of a register's words: how many, and their totals.

@@ -1,6 +1,6 @@
 -- The value of a code handed over, in plain variables.
+--   value-few      a relation has no more pairs than there are
 --   listed-value   the pairs of the first relation listed are those of the value
---   spread-value   the first relation spread to rows is the value in rows
 --   alone-listed   the pairs of a letter alone are those of its value
 --   own-words      with the work of trees, rows have too little only for 32 records or fewer
 --   front-le       a relation has a word for each record at the least
@@ -18,15 +18,13 @@ use lib.ListN.{length, take, drop, getD, length-map, length-take, length-drop, L
 use lib.Seq.{length-take-le, getD-take}
 use Rattle.book.specs.Causes.{maxRecords, maxLinks}
 use Rattle.book.specs.Book.{Book}
-use Rattle.k2.specs.Bits.{bitAt}
-use Rattle.k2.specs.PairSets.{Cells, listed}
+use Rattle.k2.specs.PairSets.{listed}
 use Rattle.k2.specs.PairSetLaws.{within-length, listed-within}
 use Rattle.paths.specs.Expressions.{Expr}
 use Rattle.paths.specs.Chains.{asked}
 use Rattle.paths.specs.Relations.{cells, pairs}
 use Rattle.paths.specs.Questions.{Engine, by-trees, by-rows, pairsWork, rowWidth, rowsWork, workFor}
 use Rattle.links.specs.Lookups.{LabelPart}
-use Rattle.rows.specs.Rows.{flat}
 use Rattle.links.specs.Links.{linkPair}
 use Rattle.grid.specs.Grid.{first}
 use Rattle.query.specs.Asking.{maxPairs}
@@ -35,12 +33,12 @@ use Rattle.query.specs.WorkLaws.{rows-fit}
 use Rattle.answers.specs.Written.{written, Wrote}
 use Rattle.k2.specs.SizeLaws.{treeUnit-some}
 use Rattle.rowpairs.specs.Labels.{Alone, LetterListed}
-use Rattle.rowpairs.specs.Evaluation.{Known, Enough, ValueFirst, ValueListed, ValueInRows}
+use Rattle.rowpairs.specs.Evaluation.{Known, Enough, ValueFirst, ValueListed}
 use Rattle.rowpairs.proofs.LoneLetterLaws.{letter-listed}
 use Rattle.rowpairs.proofs.StepLaws.{first-kept}
 
 -- ---- how many pairs a value has
-value-few : (n w : ℕ) (ws ms : List ℕ) → n ≤ maxRecords → length (listed n (first n w ws ms)) ≤ maxPairs
+pub value-few : (n w : ℕ) (ws ms : List ℕ) → n ≤ maxRecords → length (listed n (first n w ws ms)) ≤ maxPairs
 value-few n w ws ms small = omega (arith, within-length (listed-within n (first n w ws ms) small))
 
 module _ (n w : ℕ) (links marks code ws ms : List ℕ) (width : w ≡ rowWidth n) (small : n ≤ maxRecords) (made : ValueFirst n links marks code ws ms) where
@@ -59,15 +57,6 @@ module _ (n w : ℕ) (links marks code ws ms : List ℕ) (width : w ≡ rowWidth
     value = λ b L s e C. ap₂ listed (L .size) (value b L s e C);
   }
 
-  pub spread-value : (rows : List ℕ) (t : ℕ) → bitAt rows ≡ flat (first n w ws ms)
-      → t ≡ length (listed n (first n w ws ms)) → ValueInRows n links marks code rows t
-  unfolding pairs asked
-  spread-value rows t spread total = record {
-    few = omega (arith, total, value-few n w ws ms small);
-    value = λ b L s e C.
-        (spread ∙ ap flat (value b L s e C), total ∙ ap₂ (λ (i : ℕ) (a : Cells). length (listed i a)) (L .size) (value b L s e C));
-  }
-
 -- ---- a letter alone
 part-few : {l : ℕ} {links part : List ℕ} → LabelPart links l part → length part ≤ length links
 part-few {links = links} P = let q = P .inside in omega (arith, ap length (q .2), length-take (q .1) (drop (q .0) links), length-drop (q .0) links)
@@ -83,7 +72,7 @@ alone-listed n l links marks code before after t A few T = record {
 }
 
 -- ---- the work of trees
-pub own-words : (n work : ℕ) → pairsWork n ≤ work → work < rowsWork n → n ≤ 32
+own-words : (n work : ℕ) → pairsWork n ≤ work → work < rowsWork n → n ≤ 32
 own-words n work h l = go (decLt 32 n)
   where
     go : Dec (32 < n) → n ≤ 32

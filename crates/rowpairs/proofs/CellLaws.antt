@@ -1,22 +1,18 @@
 -- One cell of a relation as rows of bits with masks, in plain variables.
---   none-told               nothing is told as false
 --   cell-row, cell-column   past the last record there is nothing
 --   cell-masked             where the mask has the word, the cell is the word's bit
---   cell-unmasked, cell-unmarked, cell-past
---                           where it has not, or where there is no mask or no word, there is nothing
+--   cell-unmasked           where it has not, there is nothing
 --   column-empty, column-skip, column-gap, column-hit
 --                           a row with no mask has nothing; a word that its mask lacks has nothing; of one that it has, the cells are the word's bits
 --   pair-gap, pair-hit      the cells of a row as pair words
 --   pair-past, pair-row     past the last row there is no pair word; nor to the end of a row that has no more columns
 -- Assumes nothing.
-use mathlib.Core.Path.{_≡_, refl, sym, ap, ap₂, _∙_, subst}
-use mathlib.Core.Bool.{false}
+use mathlib.Core.Path.{_≡_, refl, sym, ap, ap₂, _∙_}
 use mathlib.Core.List.{List}
 use Prim.Native.Nat.{ℕ, _+_, _*_, _/_, _%_, _<_, _≤_, min}
 use native.Mathlib.Decide.{decLt}
 use native.Mathlib.Omega.{arith}
-use lib.Dec.{eqb}
-use lib.ListN.{length, getD, List·getD-eq-default}
+use lib.ListN.{getD}
 use Rattle.k2.specs.Bits.{digit, bitAt}
 use Rattle.k2.specs.PairSets.{Cells}
 use Rattle.bits.specs.BitSets.{Gap}
@@ -26,9 +22,6 @@ use Rattle.paths.specs.Questions.{rowWidth}
 use Rattle.grid.specs.Grid.{rowOf, firstRows}
 use Rattle.grid.specs.GridLaws.{within-in, within-row, within-column}
 use Rattle.rowpairs.specs.Evaluation.{relationIn, Column}
-
-pub none-told : {v : ℕ} → v ≡ 0 → false ≡ eqb v 1
-none-told e = ap (λ (k : ℕ). eqb k 1) (sym e)
 
 module _ (ws ms : List ℕ) (n x y : ℕ) where
   pub cell-row : n ≤ x → relationIn ws ms n x y ≡ 0
@@ -47,15 +40,6 @@ module _ (ws ms : List ℕ) (n x y : ℕ) where
 
     pub cell-unmasked : digit (getD ms x 0) (y / 64) ≡ 0 → relationIn ws ms n x y ≡ 0
     cell-unmasked e = omega (arith, cell, e)
-
-    pub cell-unmarked : length ms ≤ x → relationIn ws ms n x y ≡ 0
-    cell-unmarked k = cell-unmasked (ap (λ (m : ℕ). digit m (y / 64)) (List·getD-eq-default ms 0 k) ∙ digit-none (y / 64))
-
-    pub cell-past : (w : ℕ) → w ≡ rowWidth n → length ws ≤ x * w + y / 64 → relationIn ws ms n x y ≡ 0
-    cell-past w q k =
-        let j : length ws ≤ x * rowWidth n + y / 64 = subst (λ (i : ℕ). length ws ≤ x * i + y / 64) q k in
-        let e : digit (getD ws (x * rowWidth n + y / 64) 0) (y % 64) ≡ 0 =
-        ap (λ (m : ℕ). digit m (y % 64)) (List·getD-eq-default ws 0 j) ∙ digit-none (y % 64) in omega (arith, cell, e)
 
 -- ---- the columns of a row
 module _ (ws ms : List ℕ) (n x : ℕ) (h : x < n) where

@@ -5,3 +5,5 @@ pub mod AnswerLaws
 pub mod CellLaws
 pub mod LetterLaws
 pub mod LoneLetterLaws
+pub mod RelationLaws
+pub mod MemberLaws

@@ -29,7 +29,7 @@ use Rattle.grid.specs.Grid.{first}
 use Rattle.query.specs.Evaluation.{relations, Ready, Coded, Height}
 use Rattle.query.specs.EvaluationLaws.{coded-value, height-begins, height-ready, height-next}
 use Rattle.rowpairs.specs.Evaluation.{relationAt, lying, Goes, Reading, one-number, turned-letters, Going, ValueFirst}
-use Rattle.rowpairs.specs.declared.Next.{Next}
+use Rattle.rowpairs.specs.declared.running.Next.{Next}
 
 -- ---- letters and `^`
 turned-crossed : (g : Graph) (forward against : ℕ) → transpose (crossedBy g (lettersIn forward against)) ≡ crossedBy g (lettersIn against forward)

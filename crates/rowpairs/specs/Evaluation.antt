@@ -20,8 +20,6 @@
 --   ValueListed n links marks c before after t
 --                         some t pairs have been written to a list that held `before`, as many as it takes; for every book whose links and marks these are they
 --                         are those of the value of the code c; over any contents there are no more of them than there are of records
---   ValueInRows n links marks c rows t
---                         the same of rows of 1,024 bits
 --   Runnable n marks c    the code c is an expression's, and there is a mark of each of n records
 --   Enough n work         so much work is enough for the value of a code: for the relations of more than 32 records, and for one relation of any
 --   KnownOf r n links marks
@@ -29,17 +27,23 @@
 --   relationIn ws ms n    the relation of n records at the front of the words ws, with the masks ms
 --   Column f y n r        r is the first place below n, from y on, at which f is 1; n if there is none
 --   Held n words          so many words hold a relation of n records, and there may be so many records
---   Relating r v work ws q
---                         the relation of a text of the verdict v, asked of the register r with so many words of work, left at the front of the words ws
+--   RelatingIf known v work ws q, Relating r v work ws q
+--                         the relation of a text of the verdict v, asked of what is known of a book, or of the register r, with so many words of work, left at
+--                         the front of the words ws
+--   RelatingOver n links marks v work ws q
+--                         the same asked of the links and marks of n records
+--   Members l f           the bits of f are the members of the list l
+--   JoinsSome f l t       t says whether f is 1 at some member of the list l
 -- Assumes nothing: these are definitions.
 use mathlib.Core.Path.{_≡_}
+use mathlib.Core.Bool.{Bool, true, false}
 use mathlib.Core.List.{List, [], _∷_, _++_}
 use Rattle.answers.specs.declared.Counted.the-variants.{Count}
 use Prim.Native.Nat.{ℕ, zero, suc, _+_, _-_, _*_, _<_, _≤_}
 use lib.ListN.{length, take, drop, getD}
+use Rattle.book.specs.Basics.{In}
 use Rattle.book.specs.Book.{Book}
 use Rattle.book.specs.Causes.{maxRecords}
-use Rattle.k2.specs.Bits.{bitAt}
 use Rattle.k2.specs.PairSets.{Cells, union, transpose, product, closure}
 use Rattle.paths.specs.Expressions.{Expr}
 use Rattle.paths.specs.Grammar.{Verdict}
@@ -51,7 +55,6 @@ use Rattle.reader.specs.declared.items.Item.the-variants.{Letters, Inverse, Sta
 use Rattle.reader.specs.Letters.{lettersIn}
 use Rattle.reader.specs.Code.{itemOf, does, run}
 use Rattle.reader.specs.Running.{operands}
-use Rattle.rows.specs.Rows.{flat}
 use Rattle.bits.specs.BitSets.{Gap}
 use Rattle.grid.specs.Grid.{first, second}
 use Rattle.query.specs.Asking.{maxPairs}
@@ -59,7 +62,7 @@ use Rattle.query.specs.Leaving.{Leaves}
 use Rattle.query.specs.Evaluation.{relations, most-waiting, Coded, Height, usedBelow, Lettered}
 use Rattle.register.specs.Representation.{Represents}
 use Rattle.register.specs.declared.Register.{Register}
-use Rattle.rowpairs.specs.declared.Next.{Next}
+use Rattle.rowpairs.specs.declared.running.Next.{Next}
 use Rattle.rowpairs.specs.declared.Related.{Related}
 
 pub record Lent (n k cells masks : ℕ) : Type 0 where
@@ -118,11 +121,6 @@ pub record ValueListed (n : ℕ) (links marks c before after : List ℕ) (t : �
   pub written : after ≡ take (length before) all ++ drop (length all) before
   pub value : (b : Book) → Known b n links marks → (s : List ℕ) (e : Expr) → Coded s e c → all ≡ pairs (asked b) e
 
-pub record ValueInRows (n : ℕ) (links marks c rows : List ℕ) (t : ℕ) : Type 0 where
-  pub few : t ≤ maxPairs
-  pub value : (b : Book) → Known b n links marks → (s : List ℕ) (e : Expr) → Coded s e c
-      → (bitAt rows ≡ flat (cells (asked b) e)) × (t ≡ length (pairs (asked b) e))
-
 pub record Runnable (n : ℕ) (marks c : List ℕ) : Type 0 where
   pub small : n ≤ maxRecords
   pub marked : n ≤ length marks
@@ -148,7 +146,23 @@ pub record Held (n words : ℕ) : Type 0 where
   pub small : n ≤ maxRecords
   pub front : n * rowWidth n ≤ words
 
-pub record Relating (r : Register) (v : Verdict) (work : ℕ) (ws : List ℕ) (q : Related) : Type 0 where
-  pub leaves : Leaves r v work (relationIn ws (q .masks)) (q .answer)
+pub record RelatingIf (known : Book → Type 0) (v : Verdict) (work : ℕ) (ws : List ℕ) (q : Related) : Type 0 where
+  pub leaves : Leaves known v work (relationIn ws (q .masks)) (q .answer)
   pub held : (n : ℕ) → q .answer ≡ Count n → Held n (length ws)
   pub masks : length (q .masks) ≡ maxRecords
+
+abbrev pub Relating : Register → Verdict → (work : ℕ) → List ℕ → Related → Type 0
+Relating r v work ws q = RelatingIf (Represents r) v work ws q
+
+pub record RelatingOver (n : ℕ) (links marks : List ℕ) (v : Verdict) (work : ℕ) (ws : List ℕ) (q : Related) : Type 0 where
+  pub relating : RelatingIf (λ b. Known b n links marks) v work ws q
+  pub size : (k : ℕ) → q .answer ≡ Count k → k ≡ n
+
+pub record Members (l : List ℕ) (f : ℕ → ℕ) : Type 0 where
+  pub bit : (y : ℕ) → f y < 2
+  pub sound : (y : ℕ) → f y ≡ 1 → In y l
+  pub whole : (y : ℕ) → In y l → f y ≡ 1
+
+pub record JoinsSome (f : ℕ → ℕ) (l : List ℕ) (t : Bool) : Type 0 where
+  pub found : t ≡ true → (y : ℕ) × In y l × (f y ≡ 1)
+  pub none : t ≡ false → (y : ℕ) → In y l → f y ≡ 1 → ⊥

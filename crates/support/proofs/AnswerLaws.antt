@@ -17,6 +17,7 @@ use mathlib.Core.Path.{_≡_, refl, sym, ap, ap₂, _∙_, subst, fun-ext}
 use mathlib.Core.List.{List, [], _∷_, _++_}
 use mathlib.Core.Bool.{Bool, true, false, not, _||_, _&&_}
 use Prim.Native.Nat.{ℕ, zero, suc, _+_, _-_, _*_, _≤_, _<_, min}
+use native.Mathlib.Nat.{zero-add}
 use native.Mathlib.Decide.{decLt}
 use native.Mathlib.Omega.{arith}
 use lib.ListN.{length, take, drop, getD, length-drop}
@@ -35,12 +36,13 @@ use Rattle.paths.specs.Grammar.{Verdict, accepted, long, outside, large, verdic
 use Rattle.paths.specs.Chains.{Graph, asked}
 use Rattle.paths.specs.Relations.{cells}
 use Rattle.answers.specs.Answers.{counted, Whole}
+use Rattle.answers.specs.Written.{written, Wrote}
 use Rattle.answers.specs.AnswerLaws.{contained-refused, whole-refused, whole-given}
 use Rattle.answers.specs.declared.Counted.{Counted}
 use Rattle.answers.specs.declared.Counted.the-variants.{Count, Refused}
 use Rattle.paths.specs.Questions.{by-trees, refused, paired, unless, pairsWork, chainWork, pairsCauses, over, listAfter, countOf, Tells}
 use Rattle.register.specs.Representation.{Represents}
-use Rattle.register.specs.Parting.{touches, withoutLinks, withoutRecord, Without}
+use Rattle.register.specs.Parting.{touches, withoutLinks, withoutRecord}
 use Rattle.register.specs.PartingLaws.{present-without}
 use Rattle.register.specs.declared.Register.{Register}
 use Rattle.query.specs.AskingLaws.{handed-tells, whole-contained}
@@ -48,15 +50,15 @@ use Rattle.support.specs.declared.Marks.{Marks}
 use Rattle.support.specs.Support.{without, some, chosen, reaches, falls, fallen, orderly, supportWork, fallenOf, supportCauses, supportNumber}
 use Rattle.support.specs.Support.{supportOutcome, SupportsFor}
 use Rattle.support.specs.SupportLaws.{chosen-same}
-use Rattle.rowpairs.specs.Evaluation.{relationIn, Relating}
+use Rattle.rowpairs.specs.Evaluation.{relationIn, RelatingIf}
 use Rattle.rowpairs.specs.RelatingLaws.{relating-refused, relating-made}
 use Rattle.rowpairs.specs.declared.Related.{Related}
 use Rattle.support.specs.Inner.{lost, Marked, Compares}
 
 -- ---- the marks of a register's records
-module _ {r : Register} {v : Verdict} {anchors : List ℕ} {work n : ℕ} {ws : List ℕ} {q : Related} (A : Relating r v work ws q) where
+module _ {known : Book → Type 0} {v : Verdict} {anchors : List ℕ} {work n : ℕ} {ws : List ℕ} {q : Related} (A : RelatingIf known v work ws q) where
   pub marks-refused : {k : ℕ} → q .answer ≡ Refused k → (rs : List Bool) → length rs ≡ maxRecords
-      → Marked r v anchors work n (record { records = rs; number = k })
+      → Marked known v anchors work n (record { records = rs; number = k })
   marks-refused {k} e rs l =
       let c = A .leaves .caused k e in
       record {
@@ -67,7 +69,8 @@ module _ {r : Register} {v : Verdict} {anchors : List ℕ} {work n : ℕ} {ws : 
       }
 
   pub marks-made : {k : ℕ} → q .answer ≡ Count k → (rs : List Bool) → length rs ≡ maxRecords
-      → ((x : ℕ) → x < n → getD rs x false ≡ reaches (relationIn ws (q .masks) k) anchors x) → Marked r v anchors work n (record { records = rs; number = 0 })
+      → ((x : ℕ) → x < n → getD rs x false ≡ reaches (relationIn ws (q .masks) k) anchors x)
+      → Marked known v anchors work n (record { records = rs; number = 0 })
   marks-made {k} e rs l joined = record {
     long = l;
     caused = λ z. absurd (z refl);
@@ -193,12 +196,17 @@ module _ (words : List ℕ) (count : ℕ) (fits : count ≤ length words) {l : L
   pub handed-short : {before : List ℕ} → length before < count → Whole l before before (Refused 13)
   handed-short {before} h = whole-refused l before before (subst (λ (i : ℕ). length before < i) long-as h) refl
 
-  pub handed-whole : {before after : List ℕ} → count ≤ length before → after ≡ over (take count words) before → Whole l before after (Count count)
-  handed-whole {before} {after} h q =
-      whole-given l before after count long-as (subst (λ (i : ℕ). i ≤ length before) long-as h) (q ∙ ap (λ (k : List ℕ). over k before) e)
+  pub handed-whole : {before after : List ℕ} {q : ℕ} → count ≤ length before → Wrote 0 (take count words) before after q → Whole l before after (Count count)
+  unfolding written
+  handed-whole {before} {after} h W =
+      whole-given l before after count long-as (subst (λ (i : ℕ). i ≤ length before) long-as h)
+      (W .contents ∙ ap (λ (k : List ℕ). written 0 k before) e ∙ front)
+    where
+      front : written 0 l before ≡ over l before
+      front = ap (λ (i : ℕ). l ++ drop i before) (zero-add (length l))
 
 -- ---- the two marks compared
-module _ (r : Register) (core n : ℕ) (v : Verdict) (anchors : List ℕ) (work : ℕ) (before : List ℕ)
+module _ (known : Book → Type 0) (core n : ℕ) (v : Verdict) (anchors : List ℕ) (work : ℕ) (before : List ℕ)
     (small : n ≤ maxRecords) (below : core < n) (within : some (leb n) anchors ≡ false)
     (o : orderly 0 anchors ≡ true) where
   here-core : (b : Book) → n ≡ b .n → core < b .n
@@ -208,9 +216,9 @@ module _ (r : Register) (core n : ℕ) (v : Verdict) (anchors : List ℕ) (work 
   here-anchors b z = subst (λ (i : ℕ). some (leb i) anchors ≡ false) z within
 
   declines : {k : ℕ} → Caused k
-      → ((b : Book) → Represents r b → n ≡ b .n → (whole : ℕ) → ltb whole (supportWork (b .n)) ≡ ltb work (pairsWork (b .n))
+      → ((b : Book) → known b → n ≡ b .n → (whole : ℕ) → ltb whole (supportWork (b .n)) ≡ ltb work (pairsWork (b .n))
       → supportNumber b core v anchors whole (length before) ≡ k)
-      → Compares r core n v anchors work before before (Refused k)
+      → Compares known core n v anchors work before before (Refused k)
   unfolding counted
   declines {k} c f = record {
     contained = contained-refused (length before) 0 before before k c refl;
@@ -218,26 +226,27 @@ module _ (r : Register) (core n : ℕ) (v : Verdict) (anchors : List ℕ) (work 
   }
 
   -- by the text or the work
-  pub first-refused : {m : Marks} → Marked r v anchors work n m → (m .number ≡ 0 → ⊥) → Compares r core n v anchors work before before (Refused (m .number))
+  pub first-refused : {m : Marks} → Marked known v anchors work n m → (m .number ≡ 0 → ⊥)
+      → Compares known core n v anchors work before before (Refused (m .number))
   first-refused {m} M z =
       declines (M .caused z)
       (λ b R e whole w. number-pairs b core v anchors work whole (length before) w (here-core b e) (here-anchors b e) o (M .number b R) z)
 
-  module _ {rest : Register} {m : Marks} (M : Marked r v anchors work n m) (z : m .number ≡ 0) {p : Marks}
-      (W : Without r core rest) {later : ℕ} (kept : later ≡ work) (Q : Marked rest v anchors later n p) where
+  module _ {rest : Book → Type 0} {m : Marks} (M : Marked known v anchors work n m) (z : m .number ≡ 0) {p : Marks}
+      (W : (b : Book) → known b → rest (withoutRecord core b)) {later : ℕ} (kept : later ≡ work) (Q : Marked rest v anchors later n p) where
     -- what is left of a register has the same numbers
-    second-none : (b : Book) → Represents r b → n ≡ b .n → p .number ≡ 0
+    second-none : (b : Book) → known b → n ≡ b .n → p .number ≡ 0
     unfolding pairsCauses withoutRecord
     second-none b R s =
-        Q .number (withoutRecord core b) (W .book b R)
+        Q .number (withoutRecord core b) (W b R)
         ∙ ap (λ (j : ℕ). firstNumber (verdictCause v ++ ((short-work, ltb j (pairsWork (b .n))) ∷ []))) kept ∙ sym (M .number b R) ∙ z
 
     -- so that it is refused of no book's register
-    pub second-refused : (p .number ≡ 0 → ⊥) → Compares r core n v anchors work before before (Refused (p .number))
+    pub second-refused : (p .number ≡ 0 → ⊥) → Compares known core n v anchors work before before (Refused (p .number))
     second-refused y = declines (Q .caused y) (λ b R e whole w. absurd (y (second-none b R e)))
 
     -- the records lost are those that fall
-    lost-fallen : (b : Book) → Represents r b → n ≡ b .n → (e : Expr) → v ≡ accepted e
+    lost-fallen : (b : Book) → known b → n ≡ b .n → (e : Expr) → v ≡ accepted e
         → chosen (lost (m .records) (p .records) core) n ≡ fallenOf b v core anchors
     unfolding lost falls fallenOf fallen asked
     lost-fallen b R s e q =
@@ -250,28 +259,28 @@ module _ (r : Register) (core n : ℕ) (v : Verdict) (anchors : List ℕ) (work 
         same : (x : ℕ) → x < n → lost (m .records) (p .records) core x ≡ falls (asked b) e core anchors x
         same x h =
             let second : getD (p .records) x false ≡ reaches (cells (without core (asked b)) e) anchors x =
-            Q .records (withoutRecord core b) (W .book b R) e q (second-none b R s) x h
+            Q .records (withoutRecord core b) (W b R) e q (second-none b R s) x h
             ∙ ap (λ (g : Graph). reaches (cells g e) anchors x) (without-graph core b) in
             ap₂ (λ (u t : Bool). not (eqb x core) && (u && not t)) (M .records b R e q z x h) second
 
     -- with no number so far: the text is an expression, and the records lost are those that fall
-    record Known (b : Book) (whole : ℕ) : Type 0 where
+    record Found (b : Book) (whole : ℕ) : Type 0 where
       pub fallen : chosen (lost (m .records) (p .records) core) n ≡ fallenOf b v core anchors
       pub number : supportNumber b core v anchors whole (length before)
           ≡ firstNumber ((short-list, ltb (length before) (length (fallenOf b v core anchors))) ∷ [])
 
-    known : (b : Book) → Represents r b → n ≡ b .n → (whole : ℕ) → ltb whole (supportWork (b .n)) ≡ ltb work (pairsWork (b .n)) → Known b whole
-    known b R s whole w =
+    found : (b : Book) → known b → n ≡ b .n → (whole : ℕ) → ltb whole (supportWork (b .n)) ≡ ltb work (pairsWork (b .n)) → Found b whole
+    found b R s whole w =
         let q = number-list b core v anchors work whole (length before) w (here-core b s) (here-anchors b s) o (sym z ∙ M .number b R) in
         record { fallen = lost-fallen b R s (q .0 .0) (q .0 .1); number = q .1 }
 
     pub handed-over : {after : List ℕ} {a : Counted} → Whole (chosen (lost (m .records) (p .records) core) n) before after a
-        → Compares r core n v anchors work before after a
+        → Compares known core n v anchors work before after a
     unfolding supportOutcome
     handed-over {after} {a} H = record {
       contained = whole-contained H;
       book = λ b R s whole w.
-          let K = known b R s whole w in
+          let K = found b R s whole w in
           subst (λ (i : ℕ). Tells (unless i (paired (length (fallenOf b v core anchors)) (fallenOf b v core anchors))) before after a) (sym (K .number))
           (handed-tells _ (subst (λ (l : List ℕ). Whole l before after a) (K .fallen) H));
     }
@@ -287,14 +296,14 @@ part-short work u c h = go (decLt work (32 * u + c))
 pub part-length : (ws : List ℕ) (s m : ℕ) → s ≡ min (length ws) m → length (take (length ws - s) (drop s ws)) ≡ length ws - min (length ws) m
 part-length ws s m e = length-take-le (length ws - s) (drop s ws) (omega (arith, length-drop s ws)) ∙ ap (λ (i : ℕ). length ws - i) e
 
-pub supports : {r : Register} {core n : ℕ} {v : Verdict} {anchors : List ℕ} (work : ℕ) {part : ℕ} {before after : List ℕ} {a : Counted}
-    → ((b : Book) → Represents r b → n ≡ b .n) → part ≡ work - min work (chainWork n) → Compares r core n v anchors part before after a
-    → SupportsFor r core v anchors work before after a
-supports {n = n} work {part} size e C = record {
+pub supports : {r : Register} {known : Book → Type 0} {core n : ℕ} {v : Verdict} {anchors : List ℕ} (work : ℕ) {part : ℕ} {before after : List ℕ} {a : Counted}
+    → ((b : Book) → Represents r b → n ≡ b .n) → ((b : Book) → Represents r b → known b) → part ≡ work - min work (chainWork n)
+    → Compares known core n v anchors part before after a → SupportsFor r core v anchors work before after a
+supports {n = n} work {part} size known e C = record {
   contained = C .contained;
   book = λ b R.
       let z = size b R in
-      C .book b R z work
+      C .book b (known b R) z work
       (part-short work (treeUnit (b .n)) (chainWork (b .n)) (treeUnit-some (b .n))
       ∙ ap (λ (i : ℕ). ltb i (pairsWork (b .n))) (ap (λ (i : ℕ). work - min work (chainWork i)) (sym z) ∙ sym e));
 }

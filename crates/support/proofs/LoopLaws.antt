@@ -1,18 +1,20 @@
--- Laws of the loops over a list from a place on: a test of its members, their order, the numbers chosen so far, and words written over a list's front.
--- Assumes nothing.
-use mathlib.Core.Path.{_≡_, sym, ap, _∙_}
+-- Laws of the loops over a list from a place on: a test of its members, their order, the numbers chosen so far. Assumes nothing.
+use mathlib.Core.Path.{_≡_, refl, sym, ap, _∙_}
 use mathlib.Core.List.{List, [], _∷_, _++_, append-nil}
-use mathlib.Core.Bool.{Bool, true, false, _||_, _&&_}
+use mathlib.Core.Bool.{Bool, true, false, _||_, _&&_, true≢false}
 use Prim.Native.Nat.{ℕ, suc, _+_, _≤_, _<_}
 use native.Mathlib.Numerals.{add-one}
 use native.Mathlib.Decide.{decLt}
 use native.Mathlib.Omega.{arith}
 use lib.ListN.{length, take, drop, getD, set, drop-of-length-le}
-use lib.Seq.{getD-set-same, getD-set-other, drop-cons, take-suc-set, paste, paste-suc, take-all}
-use borrow.Author.Tests.{le-leb, lt-leb}
-use Rattle.book.specs.Basics.{pick}
-use Rattle.paths.specs.Questions.{over}
-use Rattle.support.specs.Support.{some, chosen, orderly}
+use lib.Seq.{getD-set-same, getD-set-other, drop-cons, take-suc-set}
+use lib.Dec.{leb, eqb}
+use borrow.Author.Tests.{le-leb, lt-leb, eq-eqb, eqb-true}
+use Rattle.book.specs.Basics.{pick, In}
+use Rattle.k2.specs.PairSets.{Cells}
+use Rattle.rowpairs.specs.Evaluation.{JoinsSome}
+use Rattle.support.specs.Support.{some, chosen, reaches, orderly}
+use Rattle.support.specs.SupportLaws.{some-in, in-some}
 
 -- ---- some member
 module _ (t : ℕ → Bool) (l : List ℕ) (i : ℕ) where
@@ -67,16 +69,19 @@ marked-more f records x t l e r y h = go (decLt y x)
         let z : y ≡ x = omega arith in
         ap (λ (i : ℕ). getD (set records x t) i false) z ∙ getD-set-same records x t false l ∙ e ∙ ap f (sym z)
 
--- ---- words written
-module _ (words before list : List ℕ) (i : ℕ) where
-  pub paste-next : list ≡ paste before 0 words i → i < length words → length words ≤ length before → set list i (getD words i 0) ≡ paste before 0 words (i + 1)
-  paste-next e h l =
-      let z : 0 + i ≡ i = omega arith in
-      ap (λ (k : List ℕ). set k i (getD words i 0)) e ∙ ap (λ (j : ℕ). set (paste before 0 words i) j (getD words i 0)) (sym z)
-      ∙ paste-suc before 0 words i 0 (omega arith) h ∙ ap (paste before 0 words) (sym (add-one i))
+-- ---- a member that is joined
+pub below-all : (n : ℕ) (l : List ℕ) → some (leb n) l ≡ false → (y : ℕ) → In y l → y < n
+below-all n l e y h = go (decLt y n)
+  where
+    go : Dec (y < n) → y < n
+    go (yes k) = k
+    go (no k) = absurd (true≢false (sym (in-some (leb n) l h (le-leb n y (omega arith))) ∙ e))
 
-  pub paste-over : list ≡ paste before 0 words i → i ≡ length words → list ≡ over words before
-  paste-over e z =
-      let y : 0 + length words ≡ length words = omega arith in
-      e ∙ ap (paste before 0 words) z ∙ ap (λ (j : ℕ). take (length words) words ++ drop j before) y
-      ∙ ap (λ (k : List ℕ). k ++ drop (length words) before) (take-all (length words) words (omega arith))
+pub reaches-joined : (c : Cells) (x : ℕ) (anchors : List ℕ) {t : Bool} → JoinsSome (c x) anchors t → t ≡ reaches c anchors x
+unfolding reaches
+reaches-joined c x anchors {t = true} J = let p = J .found refl in sym (in-some (λ y. eqb (c x y) 1) anchors (p .1) (eq-eqb (c x (p .0)) 1 (p .2)))
+reaches-joined c x anchors {t = false} J = go (some (λ y. eqb (c x y) 1) anchors) refl
+  where
+    go : (u : Bool) → some (λ y. eqb (c x y) 1) anchors ≡ u → false ≡ u
+    go false q = refl
+    go true q = let p = some-in (λ y. eqb (c x y) 1) anchors q in absurd (J .none refl (p .0) (p .1) (eqb-true _ _ (p .2)))

@@ -1,16 +1,15 @@
-// Sole support: which records would lose every chain to the anchors if one core did. A product above the engine: it
-// calls the engine, and the relation behind its questions, which it asks of the register and of what is left of it without the core's links; its proofs rest
-// on what is promised there.
+// Sole support: which records would lose every chain to the anchors if one core did. A product above the engine: the relation behind its questions is asked
+// of the register's marks and links, and of what is left of them without the core's links; its proofs rest on what is promised there.
 ghost use mathlib.Core.Path.{_≡_};
 ghost use mathlib.Core.Bool.{true, false, not, _&&_};
 ghost use Prim.Native.Nat.{ℕ, _<_, _≤_, min};
 ghost use lib.Dec.{leb};
 ghost use lib.ListN.{length, take, getD};
-ghost use Rattle.book.specs.Causes.{maxRecords};
-ghost use Rattle.paths.specs.Questions.{chainWork, over};
+ghost use Rattle.book.specs.Causes.{maxRecords, maxLinks};
+ghost use Rattle.paths.specs.Questions.{chainWork};
 ghost use Rattle.paths.specs.Verdicts.{verdict};
 ghost use Rattle.answers.specs.Answers.{Whole};
-ghost use Rattle.rowpairs.specs.Evaluation.{relationIn};
+ghost use Rattle.rowpairs.specs.Evaluation.{Known, KnownOf, Held, relationIn};
 ghost use Rattle.support.specs.Support.{some, chosen, reaches, orderly, Supports};
 ghost use Rattle.support.specs.Inner.{lost as Lost, Marked, Compares};
 use answers::Counted;
@@ -62,54 +61,40 @@ fn ascending(records: &[u16]) -> bool
     true
 }
 
-// Whether a relation of m records joins a record to some anchor.
-fn joined_to_some(cells: &[u64], masks: &[u16], m: usize, record: usize, anchors: &[u16]) -> bool
-    requires { ⌜ m ≤ maxRecords ⌝ }
-    ensures { λ r. ⌜ r ≡ reaches (relationIn (now (cells .entry)) (now (masks .entry)) m) (now (anchors .entry)) «record» ⌝ }
-{
-    let mut i = 0;
-    while i < anchors.len() {
-        if rowpairs::joins(cells, masks, m, record, anchors[i] as usize) {
-            return true;
-        }
-        i += 1;
-    }
-    false
-}
-
-// Of each record below n, whether a relation of m records joins it to some anchor.
+// Of each record, whether a relation of n records joins it to some anchor.
 fn joined_records(
     cells: &[u64],
     masks: &[u16],
-    m: usize,
-    anchors: &[u16],
     n: usize,
+    anchors: &[u16],
 ) -> [bool; book::MAX_RECORDS]
-    requires { ⌜ (m ≤ maxRecords) × (n ≤ maxRecords) ⌝ }
+    requires { ⌜ Held n (length (now cells)) × (n ≤ length (now masks)) × (some (leb n) (now anchors) ≡ false) ⌝ }
     ensures { λ r. ⌜ (length r ≡ maxRecords)
-        × ((x : ℕ) → x < n → getD r x false ≡ reaches (relationIn (now (cells .entry)) (now (masks .entry)) m) (now (anchors .entry)) x) ⌝ }
+        × ((x : ℕ) → x < n → getD r x false ≡ reaches (relationIn (now (cells .entry)) (now (masks .entry)) n) (now (anchors .entry)) x) ⌝ }
 {
+    let row = rowpairs::record_row(anchors);
     let mut records: [bool; book::MAX_RECORDS] = [false; book::MAX_RECORDS];
     let mut x = 0;
     while x < n {
-        records[x] = joined_to_some(cells, masks, m, x, anchors);
+        records[x] = rowpairs::joins_some(cells, masks, n, x, &row);
         x += 1;
     }
     records
 }
 
-// Of each record of a register, whether it has a chain to some anchor.
+// Of each record, by the marks and links of a register, whether it has a chain to some anchor.
 fn mark_records(
-    register: Register,
+    marks: &[u32],
+    links: &[u32],
     text: &[u8],
     anchors: &[u16],
     work: &mut [u64],
-    n: usize,
 ) -> Marks
-    requires { ⌜ n ≤ maxRecords ⌝ }
-    ensures { λ r. ⌜ Marked register (verdict (now (text .entry))) (now (anchors .entry)) (length (now (work .entry))) n r ⌝ }
+    requires { ⌜ (length (now marks) ≤ maxRecords) × (some (leb (length (now marks))) (now anchors) ≡ false) ⌝ }
+    ensures { λ r. ⌜ Marked (λ b. Known b (length (now (marks .entry))) (now (links .entry)) (now (marks .entry)))
+        (verdict (now (text .entry))) (now (anchors .entry)) (length (now (work .entry))) (length (now (marks .entry))) r ⌝ }
 {
-    let related = rowpairs::relate(register, text, work);
+    let related = rowpairs::relate_over(marks, links, text, work);
     let answer = related.answer;
     let masks = related.masks;
     match answer {
@@ -117,8 +102,8 @@ fn mark_records(
             records: [false; book::MAX_RECORDS],
             number,
         },
-        Counted::Count(m) => Marks {
-            records: joined_records(work, &masks, m, anchors, n),
+        Counted::Count(n) => Marks {
+            records: joined_records(work, &masks, n, anchors),
             number: 0,
         },
     }
@@ -162,18 +147,6 @@ fn fallen(
     FallenList { words, count }
 }
 
-// The first words of an array written over the front of a list.
-fn write(words: &[u32], list: &mut [u32])
-    requires { ⌜ length (now words) ≤ length (now list) ⌝ }
-    ensures { λ _. ⌜ now (list .exit) ≡ over (now (words .entry)) (now (list .entry)) ⌝ }
-{
-    let mut i = 0;
-    while i < words.len() {
-        list[i] = words[i];
-        i += 1;
-    }
-}
-
 // The records that fall handed over, if the list takes them all.
 fn list_fallen(
     before: [bool; book::MAX_RECORDS],
@@ -191,36 +164,39 @@ fn list_fallen(
     if list.len() < count {
         return Counted::Refused(book::SHORT_LIST);
     }
-    write(&words[..count], list);
+    answers::copy_u32(&words[..count], list, 0);
     Counted::Count(count)
 }
 
 // With a core and anchors that are not refused: the records of the register marked, and those of what is left of it without the core's links.
 fn compared(
-    register: Register,
+    marks: &[u32],
+    links: &[u32],
     core: u16,
-    n: usize,
     text: &[u8],
     anchors: &[u16],
     work: &mut [u64],
     list: &mut [u32],
 ) -> Counted
-    requires { ⌜ (n ≤ maxRecords) × (core < n) × (some (leb n) (now anchors) ≡ false) × (orderly 0 (now anchors) ≡ true) ⌝ }
-    ensures { λ a. ⌜ Compares register core n (verdict (now (text .entry))) (now (anchors .entry))
+    requires { ⌜ (length (now marks) ≤ maxRecords) × (length (now links) ≤ maxLinks) × (core < length (now marks))
+        × (some (leb (length (now marks))) (now anchors) ≡ false) × (orderly 0 (now anchors) ≡ true) ⌝ }
+    ensures { λ a. ⌜ Compares (λ b. Known b (length (now (marks .entry))) (now (links .entry)) (now (marks .entry)))
+        core (length (now (marks .entry))) (verdict (now (text .entry))) (now (anchors .entry))
         (length (now (work .entry))) (now (list .entry)) (now (list .exit)) a ⌝ }
 {
-    let before = mark_records(register, text, anchors, work, n);
+    let before = mark_records(marks, links, text, anchors, work);
     if before.number != 0 {
         return Counted::Refused(before.number);
     }
-    let rest = engine::without(register, core);
-    let after = mark_records(rest, text, anchors, work, n);
+    let mut rest: [u32; book::MAX_LINKS] = [0; book::MAX_LINKS];
+    let left = register::links_apart(links, core, &mut rest);
+    let after = mark_records(marks, &rest[..left], text, anchors, work);
     if after.number != 0 {
         return Counted::Refused(after.number);
     }
     let had = before.records;
     let has = after.records;
-    list_fallen(had, has, core as usize, n, list)
+    list_fallen(had, has, core as usize, marks.len(), list)
 }
 
 // Where the part of work begins that is lent on: past 64 words for each record, or at its end if there are not so many.
@@ -234,8 +210,36 @@ fn spared(len: usize, n: usize) -> usize
     RECORD_WORDS * n
 }
 
+// The same with a core and anchors that may be refused. The work of a pair question is lent on from word RECORD_WORDS * n, so that it is refused exactly when
+// the whole is short.
+fn supported(
+    marks: &[u32],
+    links: &[u32],
+    core: u16,
+    text: &[u8],
+    anchors: &[u16],
+    work: &mut [u64],
+    list: &mut [u32],
+) -> Counted
+    requires { ⌜ (length (now marks) ≤ maxRecords) × (length (now links) ≤ maxLinks) ⌝ }
+    ensures { λ a. ⌜ ((r : Register) → KnownOf r (length (now (marks .entry))) (now (links .entry)) (now (marks .entry))
+        → Supports r core (now (text .entry)) (now (anchors .entry)) (length (now (work .entry))) (now (list .entry)) (now (list .exit)) a) ⌝ }
+{
+    let n = marks.len();
+    if n <= core as usize {
+        return Counted::Refused(book::NO_RECORD);
+    }
+    if beyond(anchors, n) {
+        return Counted::Refused(book::NO_RECORD);
+    }
+    if !ascending(anchors) {
+        return Counted::Refused(book::UNORDERED_ANCHORS);
+    }
+    let start = spared(work.len(), n);
+    compared(marks, links, core, text, anchors, &mut work[start..], list)
+}
+
 // The records that lose every chain to the anchors when the links of the core are gone, ascending; how many they are.
-// The work of a pair question is lent on from word RECORD_WORDS * n, so that the engine refuses it exactly when the whole is short.
 pub fn sole_support(
     register: Register,
     core: u16,
@@ -247,15 +251,17 @@ pub fn sole_support(
     ensures { λ a. ⌜ Supports register core (now (text .entry)) (now (anchors .entry)) (length (now (work .entry))) (now (list .entry)) (now (list .exit)) a ⌝ }
 {
     let n = engine::size(register);
-    if n <= core as usize {
-        return Counted::Refused(book::NO_RECORD);
-    }
-    if beyond(anchors, n) {
-        return Counted::Refused(book::NO_RECORD);
-    }
-    if !ascending(anchors) {
-        return Counted::Refused(book::UNORDERED_ANCHORS);
-    }
-    let start = spared(work.len(), n);
-    compared(register, core, n, text, anchors, &mut work[start..], list)
+    let links = engine::links(register);
+    let count = links.count;
+    let array = links.words;
+    let marks = engine::marks(register);
+    supported(
+        &marks[..n],
+        &array[..count],
+        core,
+        text,
+        anchors,
+        work,
+        list,
+    )
 }

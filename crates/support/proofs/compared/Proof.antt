@@ -1,54 +1,102 @@
 -- `compared` hands over the records that the first marks have and the second have not, by the promises of the calls in their order
 -- (Answering). Assumes nothing.
-use mathlib.Core.Path.{_≡_}
-use lib.ListN.{length}
+use native.Mathlib.Omega.{arith}
+use mathlib.Core.List.{List}
+use mathlib.Core.Path.{_≡_, sym, subst}
+use Prim.Native.Nat.{ℕ, _≤_}
+use lib.ListN.{length, take}
+use lib.Seq.{length-take-le}
+use Rattle.book.specs.Book.{Book}
+use Rattle.register.specs.Parting.{withoutRecord}
+use Rattle.rowpairs.specs.Evaluation.{Known}
+use Rattle.rowpairs.specs.RelatingLaws.{known-without}
 use Rattle.support.proofs.AnswerLaws.{first-refused, second-refused, handed-over}
 use borrow.Author.Needs.{needs}
 use Rattle.support.proofs.compared.Statement.{statement}
 use Rattle.support.proofs.compared.Tie as tie
 
+-- what is known of a book without the core's links
+rest : (c : tie.After-links-apart)
+    → let a = c .before .before .before .before .before .before .before .before .before .before .before .before .before .before .args in
+    let left = take (c .links-apart .result) (c .links-apart .last .1 .1 .0) in
+    (b : Book) → Known b (length (a .marks .now)) (a .links .now) (a .marks .now)
+    → Known (withoutRecord (a .core) b) (length (a .marks .now)) left (a .marks .now)
+rest c b K =
+    let a = c .before .before .before .before .before .before .before .before .before .before .before .before .before .before .args in
+    subst (λ (l : List ℕ). Known (withoutRecord (a .core) b) (length (a .marks .now)) l (a .marks .now)) (sym (c .links-apart .ensures .1))
+    (known-without (a .core) (length (a .marks .now)) (a .links .now) (a .marks .now) b K)
+
+inside : (c : tie.After-links-apart) → c .links-apart .result ≤ length (c .links-apart .last .1 .1 .0)
+inside c =
+    let start = c .before .before .before .before .before .before .before .before .before .before .before .before .before .before in
+    let k : length (c .links-apart .last .1 .1 .0) ≡ 4096 = c .links-apart .kept .1 .1 .0 in
+    omega (arith, c .links-apart .ensures .0, start .pre .1, k)
+
 returns : tie.Need-returns
-returns c = let p = c .before .before .before .before .before .before .before .before .before .before .pre in
-    first-refused _ _ _ _ _ _ _ (p .0) (p .1) (p .2) (p .3) (c .before .before .before .before .mark-records .ensures) (c .if1 .taken)
+returns c = let p = c .before .before .before .before .before .before .before .before .before .before .before .before .pre in
+    first-refused _ _ _ _ _ _ _ (p .0) (p .2) (p .3) (p .4) (c .before .before .before .before .mark-records .ensures) (c .if1 .taken)
+
+mark-records-requires : tie.Need-mark-records-requires
+mark-records-requires c κs =
+    let start = c .before .before .before .before .before .before .before in
+    (start .pre .0, start .pre .3)
+
+links-apart-requires : tie.Need-links-apart-requires
+links-apart-requires c κs = c .before .before .before .before .before .before .before .before .before .before .before .before .before .pre .1
+
+slice-aggregate-mark-records : tie.Need-slice-aggregate-mark-records
+slice-aggregate-mark-records c = sym (length-take-le _ _ (inside (c .before .before)))
+
+mark-records-requires-2 : tie.Need-mark-records-requires-2
+mark-records-requires-2 c κs =
+    let earlier = c .before .before .before .before .before .before .before .before in
+    let start = earlier .before .before .before .before .before .before .before .before .before in
+    (start .pre .0, start .pre .3)
 
 returns-2 : tie.Need-returns-2
 returns-2 c =
     let after-mark-records2 = c .before .before .before .before in
-    let else1 = after-mark-records2 .before .before .before in
-    let after-mark-records = else1 .before .before .before .before in
-    let start = after-mark-records .before .before .before .before .before .before in
+    let after-links-apart = after-mark-records2 .before .before .before .before in
+    let after-mark-records = after-links-apart .before .before .before .before .before .before in
+    let start = after-mark-records .before .before .before .before .before .before .before .before in
     let p = start .pre in
     let m = after-mark-records .mark-records in
-    let kept : length (m .last .1 .1 .1 .0) ≡ length (start .args .work .now) = m .kept .1 .1 .1 .0 in
-    second-refused _ _ _ _ _ _ _ (p .0) (p .1) (p .2) (p .3) (m .ensures) (else1 .if1 .left)
-    (after-mark-records2 .before .before .without .ensures) kept (after-mark-records2 .mark-records2 .ensures) (c .if2 .taken)
+    let kept : length (m .last .1 .1 .1 .1 .0) ≡ length (start .args .work .now) = m .kept .1 .1 .1 .1 .0 in
+    second-refused _ _ _ _ _ _ _ (p .0) (p .2) (p .3) (p .4) (m .ensures) (after-links-apart .before .before .if1 .left)
+    (rest after-links-apart) kept (after-mark-records2 .mark-records2 .ensures) (c .if2 .taken)
 
 list-fallen-requires : tie.Need-list-fallen-requires
 list-fallen-requires c κs =
     let after-mark-records2 = c .before .before .before .before .before .before .before in
-    let after-mark-records = after-mark-records2 .before .before .before .before .before .before .before in
-    let start = after-mark-records .before .before .before .before .before .before in
+    let after-mark-records = after-mark-records2 .before .before .before .before .before .before .before .before .before .before in
+    let start = after-mark-records .before .before .before .before .before .before .before .before in
     (start .pre .0, after-mark-records .mark-records .ensures .long, after-mark-records2 .mark-records2 .ensures .long)
 
 returns-3 : tie.Need-returns-3
 returns-3 c =
     let after-mark-records2 = c .before .before .before .before .before .before .before .before .before .before in
-    let else1 = after-mark-records2 .before .before .before in
-    let after-mark-records = else1 .before .before .before .before in
-    let start = after-mark-records .before .before .before .before .before .before in
+    let after-links-apart = after-mark-records2 .before .before .before .before in
+    let after-mark-records = after-links-apart .before .before .before .before .before .before in
+    let start = after-mark-records .before .before .before .before .before .before .before .before in
     let p = start .pre in
     let m = after-mark-records .mark-records in
-    let kept : length (m .last .1 .1 .1 .0) ≡ length (start .args .work .now) = m .kept .1 .1 .1 .0 in
-    handed-over _ _ _ _ _ _ _ (p .0) (p .1) (p .2) (p .3) (m .ensures) (else1 .if1 .left) (after-mark-records2 .before .before .without .ensures)
+    let kept : length (m .last .1 .1 .1 .1 .0) ≡ length (start .args .work .now) = m .kept .1 .1 .1 .1 .0 in
+    handed-over _ _ _ _ _ _ _ (p .0) (p .2) (p .3) (p .4) (m .ensures) (after-links-apart .before .before .if1 .left) (rest after-links-apart)
     kept (after-mark-records2 .mark-records2 .ensures) (c .before .before .list-fallen .ensures)
 
 pub compared-spec : {M : Type 1} → statement M
 compared-spec =
     tie.close
     (tie.spec
-    (λ c κs. search needs) (λ c. search needs)
+    mark-records-requires
+    (λ c. search needs)
     returns
-    (λ c κs. search needs) (λ c κs. search needs) (λ c. search needs)
+    (λ c. search needs)
+    links-apart-requires
+    (λ c. search needs)
+    slice-aggregate-mark-records
+    mark-records-requires-2
+    (λ c. search needs)
     returns-2
     list-fallen-requires
     (λ c. search needs) (λ c. search needs)

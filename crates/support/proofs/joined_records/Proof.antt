@@ -1,47 +1,62 @@
 -- `joined_records` goes over the records. The loop's invariant: the records below x are marked as they are joined. The measure is
--- the records left. Assumes nothing.
+-- the records left. It rests on `reaches-joined`. Assumes nothing.
 use native.Mathlib.Omega.{arith}
 use mathlib.Core.Bool.{false}
 use mathlib.Core.Path.{_≡_, refl, _∙_}
 use Prim.Native.Nat.{ℕ, _-_, _≤_, _<_}
 use lib.ListN.{length, length-set, getD}
+use borrow.Author.Needs.{needs}
 use Rattle.book.specs.Causes.{maxRecords}
 use Rattle.support.specs.Support.{reaches}
 use Rattle.rowpairs.specs.Evaluation.{relationIn}
-use Rattle.support.proofs.LoopLaws.{marked-more}
+use Rattle.support.proofs.LoopLaws.{marked-more, below-all, reaches-joined}
 use Rattle.support.proofs.joined_records.Statement.{statement}
 use Rattle.support.proofs.joined_records.Tie as tie
 
 abbrev Inv-loop : tie.InvT-loop
-Inv-loop cells masks m anchors n records₀ x₀ records x =
-    (x ≤ n) × (n ≤ maxRecords) × (length records ≡ maxRecords) × ((y : ℕ) → y < x → getD records y false ≡ reaches (relationIn cells masks m) anchors y)
+Inv-loop cells masks n anchors row records₀ x₀ records x =
+    (x ≤ n) × (n ≤ maxRecords) × (length records ≡ maxRecords) × ((y : ℕ) → y < x → getD records y false ≡ reaches (relationIn cells masks n) anchors y)
 
 abbrev μ-loop : tie.MeasureT-loop
-μ-loop cells masks m anchors n records₀ x₀ records x = n - x
+μ-loop cells masks n anchors row records₀ x₀ records x = n - x
+
+record-row-requires : tie.Need-record-row-requires Inv-loop μ-loop
+record-row-requires c κs y h =
+    let start = c .before .before .before in
+    let below = below-all (start .args .n) (start .args .anchors .now) (start .pre .2) y h in
+    omega (arith, below, start .pre .0 .small)
 
 loop-holds : tie.Need-loop-holds Inv-loop μ-loop
-loop-holds c = (omega arith, c .before .before .before .pre .1, refl, λ y h. absurd (omega arith))
+loop-holds c = (omega arith, c .before .before .before .before .pre .0 .small, refl, λ y h. absurd (omega arith))
 
-joined-to-some-requires : tie.Need-joined-to-some-requires Inv-loop μ-loop
-joined-to-some-requires c κs = c .before .before .before .before .before .pre .0
+joins-some-requires : tie.Need-joins-some-requires Inv-loop μ-loop
+joins-some-requires c κs =
+    let P = c .before .before .before .before .before .before .before .pre in
+    (P .0, P .1, c .before .loop-test .taken, omega (arith, c .before .before .before .record-row .ensures .0))
 
 array-write-records : tie.Need-array-write-records Inv-loop μ-loop
-array-write-records c = omega (arith, c .before .before .loop .inv .1)
+array-write-records c = omega (arith, c .before .before .before .loop .inv .1)
 
 loop-again : tie.Need-loop-again Inv-loop μ-loop
-loop-again c = let l = c .before .before .loop in
-    let a = c .before .before .before .before .before .before .args in
-    let j = c .joined-to-some in (
+loop-again c =
+    let l = c .before .before .before .loop in
+    let start = c .before .before .before .before .before .before .before .before in
+    let a = start .args in
+    let row = c .before .before .before .before .record-row in
+    let m = c .joins-some in (
       omega arith,
       l .inv .1,
-      length-set (l .records) (l .x) (j .result) ∙ l .inv .2,
-      marked-more (reaches (relationIn (a .cells .now) (a .masks .now) (a .m)) (a .anchors .now)) (l .records)
-          (l .x) (j .result) (omega (arith, l .inv .1, l .inv .2)) (j .ensures) (l .inv .3),
+      length-set (l .records) (l .x) (m .result) ∙ l .inv .2,
+      marked-more (reaches (relationIn (a .cells .now) (a .masks .now) (a .n)) (a .anchors .now)) (l .records)
+          (l .x) (m .result) (omega (arith, l .inv .1, l .inv .2))
+          (reaches-joined (relationIn (a .cells .now) (a .masks .now) (a .n)) (l .x) (a .anchors .now)
+          (m .ensures (a .anchors .now) (row .ensures .1) (below-all (a .n) (a .anchors .now) (start .pre .2))))
+          (l .inv .3),
     )
 
 returns : tie.Need-returns Inv-loop μ-loop
 returns c = let l = c .before .loop in
-    let a = c .before .before .before .before .before .args in
+    let a = c .before .before .before .before .before .before .args in
     let e : l .x ≡ a .n = omega arith in
     (l .inv .2, λ y h. l .inv .3 y (omega arith))
 
@@ -51,8 +66,10 @@ joined-records-spec =
     (tie.spec
     Inv-loop
     μ-loop
+    record-row-requires
     loop-holds
-    joined-to-some-requires
+    (λ c. search needs)
+    joins-some-requires
     array-write-records
     (λ c. omega arith) (λ c. omega arith)
     loop-again

@@ -1,4 +1,4 @@
--- `hand_over` refuses a list that is shorter than the records found, and writes them over its front else. Assumes nothing.
+-- `list_fallen` refuses a list that is shorter than the records found, and writes them over its front else. Assumes nothing.
 use native.Mathlib.Omega.{arith}
 use mathlib.Core.Path.{sym}
 use lib.Seq.{length-take-le}
@@ -11,20 +11,20 @@ returns : tie.Need-returns
 returns c = let f = c .before .before .fallen in
     handed-short (f .result .words) (f .result .count) (omega (arith, f .ensures .0, f .ensures .1)) (f .ensures .2) (c .if1 .taken)
 
-slice-aggregate-write : tie.Need-slice-aggregate-write
-slice-aggregate-write c =
+slice-aggregate-copy-u32 : tie.Need-slice-aggregate-copy-u32
+slice-aggregate-copy-u32 c =
     let f = c .before .before .before .fallen in
     sym (length-take-le (f .result .count) (f .result .words) (omega (arith, f .ensures .0, f .ensures .1)))
 
-write-requires : tie.Need-write-requires
-write-requires c κs = let f = c .before .before .before .before .fallen in
+copy-u32-requires : tie.Need-copy-u32-requires
+copy-u32-requires c κs = let f = c .before .before .before .before .fallen in
     let e = length-take-le (f .result .count) (f .result .words) (omega (arith, f .ensures .0, f .ensures .1)) in
     omega (arith, e, c .before .before .if1 .left)
 
 returns-2 : tie.Need-returns-2
 returns-2 c = let f = c .before .before .before .before .before .before .before .fallen in
     handed-whole (f .result .words) (f .result .count) (omega (arith, f .ensures .0, f .ensures .1))
-    (f .ensures .2) (c .before .before .before .before .before .if1 .left) (c .before .before .write .ensures)
+    (f .ensures .2) (c .before .before .before .before .before .if1 .left) (c .before .before .copy-u32 .ensures)
 
 pub list-fallen-spec : {M : Type 1} → statement M
 list-fallen-spec =
@@ -33,7 +33,7 @@ list-fallen-spec =
     (λ c κs. search needs)
     returns
     (λ c. search needs)
-    slice-aggregate-write
-    write-requires
+    slice-aggregate-copy-u32
+    copy-u32-requires
     (λ c. search needs)
     returns-2)

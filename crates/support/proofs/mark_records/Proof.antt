@@ -1,5 +1,10 @@
--- `mark_records` asks the engine for the relation, and marks the records by it (`marks-refused`, `marks-made`). Assumes nothing.
-use mathlib.Core.Path.{refl}
+-- `mark_records` has the relation made, and marks the records by it (`marks-refused`, `marks-made`). Assumes nothing.
+use native.Mathlib.Omega.{arith}
+use mathlib.Core.Bool.{false}
+use mathlib.Core.Path.{_≡_, refl, sym, subst}
+use Prim.Native.Nat.{ℕ}
+use lib.Dec.{leb}
+use Rattle.support.specs.Support.{some}
 use Rattle.support.proofs.AnswerLaws.{marks-refused, marks-made}
 use borrow.Author.Needs.{needs}
 use Rattle.support.proofs.mark_records.Statement.{statement}
@@ -9,18 +14,28 @@ joined-records-requires : tie.Need-joined-records-requires
 joined-records-requires c κs =
     let after-answer2 = c .before .before .before in
     let after-relate = after-answer2 .before .before .before .before .before in
-    let start = after-relate .before .before .before .before .before in
-    (after-relate .relate .ensures .held _ (after-answer2 .answer2 .given .1) .small, start .pre)
+    let start = after-relate .before .before .before .before .before .before .before in
+    let r = after-relate .relate-over .ensures in
+    let e = after-answer2 .answer2 .given .1 in
+    let m = r .relating .masks in
+    let z = r .size _ e in (
+      r .relating .held _ e,
+      omega (arith, m, start .pre .0, z),
+      subst (λ (i : ℕ). some (leb i) (start .args .anchors .now) ≡ false) (sym z) (start .pre .1),
+    )
 
 returns : tie.Need-returns
-returns c = marks-refused (c .before .before .before .before .before .before .relate .ensures) (c .before .answer .given .1) _ refl
+returns c = marks-refused (c .before .before .before .before .before .before .relate-over .ensures .relating) (c .before .answer .given .1) _ refl
 
 returns-2 : tie.Need-returns-2
 returns-2 c =
     let after-answer2 = c .before .before .before .before in
     let after-relate = after-answer2 .before .before .before .before .before in
+    let r = after-relate .relate-over .ensures in
+    let e = after-answer2 .answer2 .given .1 in
+    let z = r .size _ e in
     let j = c .joined-records .ensures in
-    marks-made (after-relate .relate .ensures) (after-answer2 .answer2 .given .1) _ (j .0) (j .1)
+    marks-made (r .relating) e _ (j .0) (λ x h. j .1 x (omega (arith, h, z)))
 
 pub mark-records-spec : {M : Type 1} → statement M
 mark-records-spec =

@@ -1,53 +1,53 @@
--- `sole_support`: each refusal by the causes' order, and the rest by the promise of `compared`, whose part of the work is short
--- exactly if the whole is. Assumes nothing.
-use mathlib.Core.Path.{sym, _∙_}
-use borrow.Author.Tests.{not-true, not-false}
-use Rattle.support.proofs.AnswerLaws.{refuses-core, refuses-beyond, refuses-unordered, part-length, supports}
+-- `sole_support` asks of what it reads of the register. Assumes nothing.
+use native.Mathlib.Omega.{arith}
+use mathlib.Core.Path.{_≡_, sym}
+use Prim.Native.Nat.{_≤_}
+use lib.ListN.{length, take}
+use lib.Seq.{length-take-le}
+use Rattle.rowpairs.specs.RelatingLaws.{known-read}
 use borrow.Author.Needs.{needs}
 use Rattle.support.proofs.sole_support.Statement.{statement}
 use Rattle.support.proofs.sole_support.Tie as tie
 
+in-words : (c : tie.After-links) → c .links .result .count ≤ length (c .links .result .words)
+in-words c = let o = c .links .ensures in omega (arith, o .few, o .long)
+
+in-marks : (c : tie.After-marks) → c .before .before .before .size .result ≤ length (c .marks .result)
+in-marks c = omega (arith, c .before .before .before .size .ensures .small, c .marks .ensures .long)
+
+slice-aggregate-supported : tie.Need-slice-aggregate-supported
+slice-aggregate-supported c = sym (length-take-le _ _ (in-marks (c .before)))
+
+slice-aggregate-supported-2 : tie.Need-slice-aggregate-supported-2
+slice-aggregate-supported-2 c = sym (length-take-le _ _ (in-words (c .before .before .before .before)))
+
+supported-requires : tie.Need-supported-requires
+supported-requires c κs =
+    let after-marks = c .before .before .before .before in
+    let after-links = after-marks .before .before in
+    let n = after-links .before .size in
+    let ls = after-links .links in
+    let ms = after-marks .marks in
+    let m : length (take (n .result) (ms .result)) ≡ n .result = length-take-le (n .result) (ms .result) (in-marks after-marks) in
+    let k : length (take (ls .result .count) (ls .result .words)) ≡ ls .result .count =
+    length-take-le (ls .result .count) (ls .result .words) (in-words after-links) in
+    (omega (arith, m, n .ensures .small), omega (arith, k, ls .ensures .few))
+
 returns : tie.Need-returns
-returns c = refuses-core _ _ _ _ (c .before .size .ensures .size) (c .if1 .taken)
-
-returns-2 : tie.Need-returns-2
-returns-2 c = refuses-beyond _ _ _ _ (c .before .before .before .size .ensures .size) (sym (c .before .beyond .ensures) ∙ c .if2 .taken)
-
-returns-3 : tie.Need-returns-3
-returns-3 c =
-    refuses-unordered _ _ _ _ (c .before .before .before .before .before .size .ensures .size) (c .before .before .before .before .if1 .left)
-    (sym (c .before .before .before .beyond .ensures) ∙ c .before .before .if2 .left)
-    (sym (c .before .ascending .ensures) ∙ not-true (c .before .ascending .result) (c .if3 .taken))
-
-compared-requires : tie.Need-compared-requires
-compared-requires c κs =
-    let else3 = c .before .before .before in
-    let after-beyond = else3 .before .before .before in (
-      after-beyond .before .before .size .ensures .small,
-      after-beyond .before .if1 .left,
-      sym (after-beyond .beyond .ensures) ∙ else3 .before .before .if2 .left,
-      sym (else3 .before .ascending .ensures) ∙ not-false (else3 .before .ascending .result) (else3 .if3 .left),
-    )
-
-returns-4 : tie.Need-returns-4
-returns-4 c =
-    let after-compared = c .before .before .before .before in
-    let after-spared = after-compared .before .before .before in
-    let after-size = after-spared .before .before .before .before .before .before in
-    let start = after-size .before .before .before .before .before in
-    supports _ (after-size .size .ensures .size) (part-length (start .args .work .now) _ _ (after-spared .spared .ensures)) (after-compared .compared .ensures)
+returns c =
+    let after-supported = c .before .before .before .before in
+    let after-marks = after-supported .before .before .before .before .before in
+    let after-size = after-marks .before .before .before in
+    after-supported .supported .ensures _ (known-read (after-size .size .ensures) (after-marks .marks .ensures) (after-marks .before .before .links .ensures))
 
 pub sole-support-spec : {M : Type 1} → statement M
 sole-support-spec =
     tie.close
     (tie.spec
-    (λ c κs. search needs)
-    returns
-    (λ c κs. search needs)
-    returns-2
-    (λ c κs. search needs)
-    returns-3
-    (λ c κs. search needs) (λ c. search needs) (λ c. search needs) (λ c. search needs) (λ c. search needs)
-    compared-requires
+    (λ c κs. search needs) (λ c κs. search needs) (λ c κs. search needs) (λ c. search needs)
+    slice-aggregate-supported
+    (λ c. search needs)
+    slice-aggregate-supported-2
+    supported-requires
     (λ c. search needs) (λ c. search needs)
-    returns-4)
+    returns)

@@ -1,23 +1,21 @@
--- `spread` goes row by row. The loop's invariant: the rows below x are those of the relation, the others are empty, and t is the number of their pairs.
--- The measure is the rows left. It rests on `laid-more` and `rows-count`. Assumes nothing.
-use mathlib.Core.Path.{_≡_, sym, ap, _∙_}
-use Prim.Native.Nat.{_-_, _*_, _≤_}
+-- `spread` goes row by row. The loop's invariant: the rows below x are those of the relation, and the others are empty. The measure is the rows left. It
+-- rests on `laid-more`. Assumes nothing.
+use mathlib.Core.Path.{_≡_, _∙_}
+use Prim.Native.Nat.{_-_, _≤_}
 use native.Mathlib.Omega.{arith}
 use borrow.Author.Needs.{needs}
 use lib.ListN.{length}
-use Rattle.k2.specs.PairSets.{Cells, rowsPairs}
+use Rattle.k2.specs.PairSets.{Cells}
 use Rattle.grid.specs.Grid.{first}
-use Rattle.grid.proofs.ListingLaws.{rows-none, rows-all}
-use Rattle.grid.proofs.SpreadLaws.{rows-count, Laid, laid-empty, laid-none, laid-more, laid-all}
+use Rattle.grid.proofs.SpreadLaws.{Laid, laid-empty, laid-none, laid-more, laid-all}
 use Rattle.grid.proofs.spreading.spread.Statement.{statement}
 use Rattle.grid.proofs.spreading.spread.Tie as tie
 
 abbrev Inv-loop : tie.InvT-loop
-Inv-loop cells masks n w rows₀ t₀ x₀ rows t x =
-    (x ≤ n) × (t ≤ x * 1024) × (t ≡ length (rowsPairs (first n w cells masks) n x)) × (length rows ≡ 16384) × Laid x (first n w cells masks) rows
+Inv-loop cells masks n w rows₀ x₀ rows x = (x ≤ n) × (length rows ≡ 16384) × Laid x (first n w cells masks) rows
 
 abbrev μ-loop : tie.MeasureT-loop
-μ-loop cells masks n w rows₀ t₀ x₀ rows t x = n - x
+μ-loop cells masks n w rows₀ x₀ rows x = n - x
 
 clear-requires : tie.Need-clear-requires Inv-loop μ-loop
 clear-requires c κs = c .before .before .before .before .pre .1
@@ -28,7 +26,7 @@ loop-holds c =
     let a = start .args in
     let F : Cells = first (a .n) (a .w) (a .cells .now) (a .masks .now) in
     let k = c .before .before .clear in
-    (omega arith, omega arith, sym (ap length (rows-none F (a .n))), k .kept .0 ∙ start .pre .1, laid-none F _ (k .ensures))
+    (omega arith, k .kept .0 ∙ start .pre .1, laid-none F _ (k .ensures))
 
 spread-row-requires : tie.Need-spread-row-requires Inv-loop μ-loop
 spread-row-requires c κs =
@@ -37,12 +35,9 @@ spread-row-requires c κs =
     let l = c .before .before .before .loop in (
       omega (arith, start .pre .0),
       c .before .before .loop-test .taken,
-      l .inv .3,
-      laid-empty (l .x) (first (a .n) (a .w) (a .cells .now) (a .masks .now)) (l .rows) (l .inv .4),
+      l .inv .1,
+      laid-empty (l .x) (first (a .n) (a .w) (a .cells .now) (a .masks .now)) (l .rows) (l .inv .2),
     )
-
-add-t : tie.Need-add-t Inv-loop μ-loop
-add-t c = omega (arith, c .before .before .before .before .before .before .loop .inv .1, c .before .before .spread-row .ensures .0)
 
 loop-again : tie.Need-loop-again Inv-loop μ-loop
 loop-again c =
@@ -51,20 +46,15 @@ loop-again c =
     let l = c .before .before .before .before .before .before .loop in
     let R = c .before .before .spread-row in (
       omega arith,
-      omega (arith, l .inv .1, R .ensures .0),
-      rows-count (a .n) (a .w) (l .x) (l .t) (R .result) (a .cells .now) (a .masks .now) (omega arith) (l .inv .2) (R .ensures .1),
-      R .kept .1 .1 .1 .1 .1 .0 ∙ l .inv .3,
-      laid-more (a .n) (a .w) (a .cells .now) (a .masks .now) (l .x) (l .rows) _ (omega arith) (l .inv .4) (R .ensures .2),
+      R .kept .1 .1 .1 .1 .1 .0 ∙ l .inv .1,
+      laid-more (a .n) (a .w) (a .cells .now) (a .masks .now) (l .x) (l .rows) _ (omega arith) (l .inv .2) (R .ensures),
     )
 
 returns : tie.Need-returns Inv-loop μ-loop
 returns c =
     let a = c .before .before .before .before .before .before .before .before .before .args in
     let l = c .before .loop in
-    let F : Cells = first (a .n) (a .w) (a .cells .now) (a .masks .now) in (
-      l .inv .2 ∙ ap length (rows-all (a .n) (l .x) F (omega arith)),
-      laid-all (a .n) (a .w) (a .cells .now) (a .masks .now) (l .x) (l .rows) (omega arith) (l .inv .4),
-    )
+    laid-all (a .n) (a .w) (a .cells .now) (a .masks .now) (l .x) (l .rows) (omega arith) (l .inv .2)
 
 pub spread-spec : {M : Type 1} → statement M
 spread-spec =
@@ -76,7 +66,6 @@ spread-spec =
     loop-holds
     (λ c. omega arith) (λ c. omega arith)
     spread-row-requires
-    add-t
     (λ c. omega arith) (λ c. omega arith)
     loop-again
     (λ c. search needs)

@@ -1,7 +1,7 @@
 -- `count` is the ones of the word (`word-count`). Assumes nothing.
 use native.Mathlib.Omega.{arith}
 use lib.Count.{ones-le}
-use Rattle.grid.proofs.SpreadLaws.{word-count}
+use Rattle.grid.proofs.CountLaws.{word-count}
 use Rattle.grid.proofs.words.count.Statement.{statement}
 use Rattle.grid.proofs.words.count.Tie as tie
 

@@ -1,0 +1,60 @@
+-- `record_row` goes over the records. The loop's invariant: the bits are the first i of them. The measure is the records left. Assumes nothing.
+use mathlib.Core.Path.{_≡_, refl, subst, _∙_}
+use mathlib.Core.List.{List}
+use Prim.Native.Nat.{ℕ, _-_, _≤_}
+use native.Mathlib.Omega.{arith}
+use lib.ListN.{length, take}
+use lib.Seq.{take-all}
+use borrow.Author.Needs.{needs}
+use Rattle.book.specs.ListLaws.{at-in}
+use Rattle.k2.specs.Bits.{bitAt}
+use Rattle.bits.specs.BitSetLaws.{bits-none}
+use Rattle.rowpairs.specs.Evaluation.{Members}
+use Rattle.rowpairs.proofs.MemberLaws.{members-none, members-more}
+use Rattle.rowpairs.proofs.leaving.record_row.Statement.{statement}
+use Rattle.rowpairs.proofs.leaving.record_row.Tie as tie
+
+abbrev Inv-loop : tie.InvT-loop
+Inv-loop records row₀ i₀ row i = (i ≤ length records) × (length row ≡ 16) × Members (take i records) (bitAt row)
+
+abbrev μ-loop : tie.MeasureT-loop
+μ-loop records row₀ i₀ row i = length records - i
+
+loop-holds : tie.Need-loop-holds Inv-loop μ-loop
+loop-holds c = (omega arith, refl, members-none _ (bits-none 16))
+
+cast-set-bit : tie.Need-cast-set-bit Inv-loop μ-loop
+cast-set-bit c = omega (arith, c .shared-slice-known2 .given (c .before .before .before .loop .i) .fits)
+
+set-bit-requires : tie.Need-set-bit-requires Inv-loop μ-loop
+set-bit-requires c κs =
+    let a = c .before .before .before .before .before .args in
+    let l = c .before .before .before .loop in
+    omega (arith, l .inv .1, c .before .before .before .before .before .pre _ (at-in (a .records .now) (l .i) 0 (omega arith)))
+
+loop-again : tie.Need-loop-again Inv-loop μ-loop
+loop-again c =
+    let a = c .before .before .before .before .before .before .before .args in
+    let l = c .before .before .before .before .before .loop in
+    let s = c .before .set-bit in
+    (omega arith, s .kept .0 ∙ l .inv .1, members-more (a .records .now) (l .i) (bitAt (l .row)) _ (omega arith) (s .ensures) (l .inv .2))
+
+returns : tie.Need-returns Inv-loop μ-loop
+returns c =
+    let a = c .before .before .before .args in
+    let l = c .before .loop in
+    (l .inv .1, subst (λ (k : List ℕ). Members k (bitAt (l .row))) (take-all (l .i) (a .records .now) (omega arith)) (l .inv .2))
+
+pub record-row-spec : {M : Type 1} → statement M
+record-row-spec =
+    tie.close
+    (tie.spec
+    Inv-loop
+    μ-loop
+    loop-holds
+    (λ c. search needs) (λ c. omega arith) (λ c. omega arith)
+    cast-set-bit
+    set-bit-requires
+    (λ c. omega arith) (λ c. omega arith)
+    loop-again
+    returns)

@@ -1,0 +1,27 @@
+-- `pairs_over` asks with the marks and links that were read. Assumes nothing.
+use native.Mathlib.Omega.{arith}
+use Rattle.paths.specs.Questions.{by-rows}
+use Rattle.query.specs.LetterLaws.{read-known}
+use borrow.Author.Needs.{needs}
+use Rattle.rowpairs.proofs.listing.pairs_over.Statement.{statement}
+use Rattle.rowpairs.proofs.listing.pairs_over.Tie as tie
+
+answer-requires : tie.Need-answer-requires
+answer-requires c κs =
+    let start = c .before .before .before .before .before .before .before .before in
+    (start .pre .0, omega arith, start .pre .1, (by-rows, c .before .before .rows-work .ensures))
+
+returns : tie.Need-returns
+returns c =
+    let after-answer = c .before .before .before .before in
+    let after-rows-work = after-answer .before .before .before in
+    λ r R. after-answer .answer .ensures by-rows (after-rows-work .rows-work .ensures) r (λ b S. read-known R b S)
+
+pub pairs-over-spec : {M : Type 1} → statement M
+pairs-over-spec =
+    tie.close
+    (tie.spec
+    (λ c κs. search needs)
+    answer-requires
+    (λ c. search needs) (λ c. search needs)
+    returns)
