@@ -31,15 +31,15 @@ use Rattle.rows.specs.Rows.{flat}
 use Rattle.rowpairs.specs.Evaluation.{Relating}
 use Rattle.rowpairs.specs.RelatingLaws.{relating-refused, relating-made}
 use Rattle.rowpairs.specs.declared.Related.{Related}
-use Rattle.query.specs.AskingLaws.{handed-tells, whole-contained}
+use Rattle.query.specs.AskingLaws.{asked-enough, handed-tells, whole-contained}
 use Rattle.pages.specs.Pages.{pages}
 use Rattle.pages.specs.PageCalls.{printOutcome, Prints, Content, listing, nothing, are-pages, no-pages, readOutcome, ReadsPages}
-use Rattle.pages.specs.PageCallLaws.{asked-enough, print-refused, print-asked, read-refused, read-broken, read-short}
+use Rattle.pages.specs.PageCallLaws.{print-refused, print-asked, read-refused, read-broken, read-short}
 use Rattle.pages.specs.PageCallLaws.{read-filled}
 use Rattle.pages.specs.Lines.{held, pairsHeld, wordsBefore, Judged, good, bad}
 use Rattle.pages.proofs.LayoutLaws.{held-listed}
-use Rattle.pages.specs.declared.Judgement.{Judgement}
-use Rattle.pages.specs.declared.Judgement.the-variants.{Listing, Broken}
+use Rattle.pages.specs.declared.reading.Judgement.{Judgement}
+use Rattle.pages.specs.declared.reading.Judgement.the-variants.{Listing, Broken}
 
 -- ---- printing
 module _ (r : Register) (text : List ℕ) (work : ℕ) (ws before : List ℕ) {q : Related} (A : Relating r (verdict text) work ws q) where

@@ -26,8 +26,8 @@ use Rattle.pages.specs.Lines.{pairWords, mostLines, linesOf, cellWords, 
 use Rattle.pages.specs.Lines.{falls, Judged, good, bad}
 use Rattle.pages.specs.LineLaws.{line-head, line-pairs, joined-next}
 use Rattle.pages.specs.ReadLaws.{words-head, words-pairs, after-le, after-append, within-small, AsPages, pages-stand, stand-within, stand-pages}
-use Rattle.pages.specs.declared.Judgement.{Judgement}
-use Rattle.pages.specs.declared.Judgement.the-variants.{Listing, Broken}
+use Rattle.pages.specs.declared.reading.Judgement.{Judgement}
+use Rattle.pages.specs.declared.reading.Judgement.the-variants.{Listing, Broken}
 
 -- ---- one line
 pub rising-small : {low next : ℕ} (ws : List ℕ) (n : ℕ) → n ≤ length ws

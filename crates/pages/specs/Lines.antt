@@ -43,8 +43,8 @@ use Rattle.rowpairs.specs.Evaluation.{relationIn}
 use Rattle.report.specs.Report.{space}
 use Rattle.answers.specs.Written.{Wrote}
 use Rattle.pages.specs.Pages.{joined, parts, linePairs, pagePairs, recordWidth, pairLine, headLine, IsPages}
-use Rattle.pages.specs.declared.Judgement.{Judgement}
-use Rattle.pages.specs.declared.Judgement.the-variants.{Listing, Broken}
+use Rattle.pages.specs.declared.reading.Judgement.{Judgement}
+use Rattle.pages.specs.declared.reading.Judgement.the-variants.{Listing, Broken}
 
 abbrev pub lineBytes : ℕ
 lineBytes = 73

@@ -1,5 +1,4 @@
 -- Laws of the two calls: which outcome it is, by the verdict, the lent lengths and what the bytes hold.
---   Asked, asked-enough  what is so where a pair question is not refused
 --   print-little, print-asked, print-short, print-filled
 --                        12; the pages handed over whole: 13, or the pages
 --   print-refused        refused as the pair question is
@@ -34,24 +33,6 @@ use Rattle.pages.specs.PageCalls.{filled, printCauses, printOutcome, Con
 use Rattle.pages.specs.PageCalls.{readOutcome}
 
 -- ---- printing
-pub record Asked (b : Book) (v : Verdict) (work : ℕ) : Type 0 where
-  pub syntax : Expr
-  pub is : v ≡ accepted syntax
-  pub enough : 32 * treeUnit (b .n) ≤ work
-
--- where a pair question has no cause against it, the text is an expression and the work enough
-pub asked-enough : (b : Book) (v : Verdict) (work : ℕ) → firstNumber (pairsCauses by-trees b v work) ≡ 0 → Asked b v work
-unfolding pairsCauses verdictCause firstNumber number
-asked-enough b (accepted e) work q = go (decLt work (32 * treeUnit (b .n)))
-  where
-    go : Dec (work < 32 * treeUnit (b .n)) → Asked b (accepted e) work
-    go (yes h) =
-        absurd (let z : _≡_ {A = ℕ} (pick (ltb work (32 * treeUnit (b .n))) 12 0) 12 = rw (lt-ltb work (32 * treeUnit (b .n)) h) refl in omega (arith, q, z))
-    go (no h) = record { syntax = e; is = refl; enough = omega arith }
-asked-enough b long work q = absurd (let z : _≡_ {A = ℕ} 10 0 = q in omega arith)
-asked-enough b outside work q = absurd (let z : _≡_ {A = ℕ} 9 0 = q in omega arith)
-asked-enough b large work q = absurd (let z : _≡_ {A = ℕ} 10 0 = q in omega arith)
-
 module _ (b : Book) (text : List ℕ) (work room : ℕ) where
   module _ (e : Expr) (v : verdict text ≡ accepted e) where
     pub print-little : work < 32 * treeUnit (b .n) → printOutcome b text work room ≡ refused 12

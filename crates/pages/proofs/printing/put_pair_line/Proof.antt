@@ -1,0 +1,136 @@
+-- `put_pair_line`: the loop's invariant is that the cells of the first i words are written, 12 bytes each; the measure is the number of words left. Then blanks
+-- and the line feed (`wrote-pairs`). Assumes nothing.
+use mathlib.Core.Path.{_≡_, refl, subst, _∙_}
+use Prim.Native.Nat.{ℕ, _+_, _-_, _*_, _≤_}
+use native.Mathlib.Omega.{arith}
+use denote.Ref.{now}
+use lib.ListN.{length, take, getD, length-replicate}
+use Rattle.report.specs.Report.{space, lines}
+use Rattle.report.specs.ReportLaws.{wrote-line}
+use Rattle.answers.specs.Written.{Wrote}
+use Rattle.answers.specs.WrittenLaws.{wrote-none}
+use Rattle.pages.specs.Pages.{pairCell}
+use Rattle.pages.specs.LineLaws.{length-cell}
+use Rattle.pages.proofs.WritingLaws.{wrote-pairs}
+use Rattle.pages.proofs.printing.put_pair_line.Statement.{statement}
+use Rattle.pages.proofs.printing.put_pair_line.Tie as tie
+
+abbrev Inv-loop : tie.InvT-loop
+Inv-loop words count out₀ at end₀ i₀ out end i =
+    (i ≤ count) × (length out ≡ length out₀) × (end ≡ at + 12 * i) × Wrote at (lines pairCell (take i words)) out₀ out end
+
+abbrev μ-loop : tie.MeasureT-loop
+μ-loop words count out₀ at end₀ i₀ out end i = count - i
+
+loop-holds : tie.Need-loop-holds Inv-loop μ-loop
+unfolding lines
+loop-holds c = let s = c .before .before in (omega arith, refl, omega arith, wrote-none (s .args .at) (now (s .args .out)) (omega (arith, s .pre .3)))
+
+shared-slice-read-put-cell : tie.Need-shared-slice-read-put-cell Inv-loop μ-loop
+shared-slice-read-put-cell c = let s = c .before .before .before .before .before in omega (arith, s .pre .1)
+
+put-cell-requires : tie.Need-put-cell-requires Inv-loop μ-loop
+put-cell-requires c κs =
+    let s = c .before .before .before .before .before .before in
+    let here = c .before .before .before .loop in (
+      s .pre .2 (here .i) (c .before .before .loop-test .taken),
+      omega (arith, s .pre .0, s .pre .3, here .inv .1, here .inv .2, c .before .before .loop-test .taken),
+    )
+
+add-i : tie.Need-add-i Inv-loop μ-loop
+add-i c = omega (arith, c .before .before .before .before .before .loop-test .taken)
+
+loop-less : tie.Need-loop-less Inv-loop μ-loop
+loop-less c = omega (arith, c .before .before .before .before .before .loop-test .taken)
+
+loop-again : tie.Need-loop-again Inv-loop μ-loop
+loop-again c =
+    let in-loop = c .before .before .before .before .before in
+    let s = in-loop .before .before .before .before in
+    let here = in-loop .before .loop in
+    let q = c .before .before .put-cell in
+    let ws = now (s .args .words) in
+    let h = in-loop .loop-test .taken in
+    let k : length (q .last .1 .0) ≡ length (here .out) = q .kept .1 .0 in
+    let n = length-cell (getD ws (here .i) 0) (s .pre .2 (here .i) h) in (
+      omega arith,
+      k ∙ here .inv .1,
+      omega (arith, q .ensures .place, here .inv .2),
+      wrote-line pairCell ws (here .i) (here .inv .3) (q .ensures) (omega (arith, s .pre .1)),
+    )
+
+mul-put-blanks : tie.Need-mul-put-blanks Inv-loop μ-loop
+mul-put-blanks c = let s = c .before .before .before .before in omega (arith, s .pre .0)
+
+sub-put-blanks : tie.Need-sub-put-blanks Inv-loop μ-loop
+sub-put-blanks c = let s = c .before .before .before .before in omega (arith, s .pre .0)
+
+put-blanks-requires : tie.Need-put-blanks-requires Inv-loop μ-loop
+put-blanks-requires c κs =
+    let s = c .before .before .before .before .before in
+    let here = c .before .before .loop in
+    omega (arith, s .pre .0, s .pre .3, here .inv .0, here .inv .1, here .inv .2)
+
+put-byte-requires : tie.Need-put-byte-requires Inv-loop μ-loop
+put-byte-requires c κs =
+    let after-put-blanks = c .before .before .before in
+    let at-loop = after-put-blanks .before .before .before in
+    let s = at-loop .before .before .before in
+    let here = at-loop .loop in
+    let p = after-put-blanks .put-blanks in
+    let k : length (p .last .1 .0) ≡ length (here .out) = p .kept .1 .0 in
+    omega (
+      arith,
+      p .ensures .place,
+      length-replicate (72 - 12 * s .args .count) space,
+      s .pre .0,
+      s .pre .3,
+      here .inv .0,
+      here .inv .1,
+      here .inv .2,
+      after-put-blanks .before .before .loop-test .left,
+    )
+
+same-length : tie.Need-same-length Inv-loop μ-loop
+same-length c =
+    let after-put-blanks = c .before .before .before .before .before .before in
+    let at-loop = after-put-blanks .before .before .before in
+    let s = at-loop .before .before .before in
+    let here = at-loop .loop in
+    let p = after-put-blanks .put-blanks in
+    let q = c .before .before .put-byte in
+    let k : length (p .last .1 .0) ≡ length (here .out) = p .kept .1 .0 in
+    let j : length (q .last .1 .0) ≡ length (p .last .1 .0) = q .kept .1 .0 in
+    j ∙ k ∙ here .inv .1
+
+returns : tie.Need-returns Inv-loop μ-loop
+returns c =
+    let after-put-blanks = c .before .before .before .before .before .before in
+    let at-loop = after-put-blanks .before .before .before in
+    let s = at-loop .before .before .before in
+    let here = at-loop .loop in
+    let ws = now (s .args .words) in
+    let e : here .i ≡ s .args .count = omega (arith, here .inv .0, after-put-blanks .before .before .loop-test .left) in
+    wrote-pairs ws (s .args .count) (s .pre .1) (s .pre .2)
+    (subst (λ (n : ℕ). Wrote (s .args .at) (lines pairCell (take n ws)) (now (s .args .out)) (here .out) (here .end)) e (here .inv .3))
+    (after-put-blanks .put-blanks .ensures) (c .before .before .put-byte .ensures)
+
+pub put-pair-line-spec : {M : Type 1} → statement M
+put-pair-line-spec =
+    tie.close
+    (tie.spec
+    Inv-loop
+    μ-loop
+    loop-holds
+    (λ c. omega arith)
+    shared-slice-read-put-cell
+    put-cell-requires
+    add-i
+    loop-less
+    loop-again
+    mul-put-blanks
+    sub-put-blanks
+    put-blanks-requires
+    put-byte-requires
+    same-length
+    returns)
