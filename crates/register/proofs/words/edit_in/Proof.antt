@@ -12,8 +12,8 @@ use Rattle.register.specs.Marks.{Marked}
 use Rattle.register.specs.Counters.{InRange}
 use Rattle.register.specs.Calls.{answerNumber}
 use Rattle.register.specs.Words.{stateWords, Keeps}
-use Rattle.register.specs.WordLaws.{part-long, loaded, keeps-formed, edit-foreign, edit-stepped}
-use Rattle.register.specs.Inner.{registerOf, outcomeOf, AsLong, Formed}
+use Rattle.register.specs.WordLaws.{loaded, keeps-formed, edit-foreign, edit-stepped}
+use Rattle.register.specs.Inner.{registerOf, AsLong, Formed}
 use Rattle.register.specs.declared.Register.{Register}
 use Rattle.register.proofs.StepLaws.{refused-done}
 use Rattle.register.proofs.KeepLaws.{part-fits, part-read, edited-in}
