@@ -39,7 +39,8 @@ use Rattle.register.specs.Counters.{InRange}
 use Rattle.register.specs.Calls.{answerOf, answerNumber, Opens, Steps, Closes}
 use Rattle.register.specs.HistoryLaws.{number-answer}
 use Rattle.register.specs.Inner.{Shown}
-use Rattle.register.specs.Words.{stateWords, Keeps, Foreign, OfWords, Copies, Loads, Stores}
+use Rattle.register.specs.Words.{stateWords, Keeps, Foreign, OfWords, Copies}
+use Rattle.register.specs.Inner.{Loads, Stores}
 use Rattle.register.specs.MarkLaws.{represents-marked}
 use Rattle.register.specs.WordLaws.{keeps-long, keeps-same, load-done}
 use Rattle.register.specs.declared.Register.{Register}

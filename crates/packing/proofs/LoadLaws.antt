@@ -36,7 +36,8 @@ use Rattle.k2.specs.TreeLaws.{treeWords-bits, quadrant-transpose, filled-transp
 use Rattle.k2.specs.DigitLaws.{shifted, digit-add, digit-big}
 use Rattle.k2.specs.WordLaws.{digit-mod, shifted-in, shifted-out, trailing-set, trailing-clear}
 use Rattle.bits.specs.BitSets.{either, fourAt}
-use Rattle.rows.specs.Rows.{flat, noPairs}
+use Rattle.rows.specs.Rows.{flat}
+use Rattle.rows.specs.RowSets.{noPairs}
 use Rattle.packing.specs.Reading.{turnedBy, turned, inside, quartersTo, Reads}
 
 -- ---- squares of a set

@@ -8,7 +8,7 @@ use native.Mathlib.Omega.{arith}
 use lib.ListN.{length, getD, set}
 use lib.Seq.{getD-set-same, getD-set-other}
 use Rattle.k2.specs.PairSets.{Cells, union}
-use Rattle.rows.specs.Rows.{noPairs}
+use Rattle.rows.specs.RowSets.{noPairs}
 use Rattle.rows.specs.RowLaws.{union-none, union-join}
 use Rattle.packing.specs.Reading.{inside, Reads, squareBit, squareRow, squareColumn, squaresTo, Fits, FitAll, ReadAll}
 

@@ -40,7 +40,7 @@ use Rattle.k2.specs.Bits.{digit, bitAt, bitsOf, onesBelow}
 use Rattle.k2.specs.PairSets.{Cells, union, transpose}
 use Rattle.k2.specs.Trees.{treeBits}
 use Rattle.k2.specs.Nodes.{Node, exchanged}
-use Rattle.rows.specs.Rows.{noPairs}
+use Rattle.rows.specs.RowSets.{noPairs}
 
 abbrev pub turnedBy : ℕ → Cells → Cells
 turnedBy zero a = a

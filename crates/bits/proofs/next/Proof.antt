@@ -21,7 +21,10 @@ abbrev start-of-loop : tie.At-loop Inv-loop μ-loop → tie.Start Inv-loop μ-lo
 start-of-loop p = p .before .before .before .before .before
 
 abbrev start-of-lowest-set2 : tie.After-lowest-set2 Inv-loop μ-loop → tie.Start Inv-loop μ-loop
-start-of-lowest-set2 p = let at-in-loop = p .before .before .before .before .before in let at-loop = at-in-loop .before in at-loop .before .before .before .before .before
+start-of-lowest-set2 p =
+    let at-in-loop = p .before .before .before .before .before in
+    let at-loop = at-in-loop .before in
+    at-loop .before .before .before .before .before
 
 abbrev loop-of-lowest-set2 : tie.After-lowest-set2 Inv-loop μ-loop → tie.At-loop Inv-loop μ-loop
 loop-of-lowest-set2 p = let at-in-loop = p .before .before .before .before .before in at-in-loop .before
@@ -63,8 +66,9 @@ returns-4 c =
 
 loop-again : tie.Need-loop-again Inv-loop μ-loop
 loop-again c =
-    let a = start-of-loop (c .before .before .before .before) .args in
-    let l = c .before .before .before .before .loop in
+    let at-loop = c .before .before .before .before in
+    let a = start-of-loop at-loop .args in
+    let l = at-loop .loop in
     (refl, omega arith, omega arith, gap-join _ (a .lo) (l .q * 64) _ (l .inv .3) (gap-word (a .words .now) (l .q) (c .if4 .left)))
 
 returns-5 : tie.Need-returns-5 Inv-loop μ-loop

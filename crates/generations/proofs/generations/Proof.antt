@@ -12,7 +12,7 @@ use Rattle.book.specs.Book.{Book}
 use Rattle.paths.specs.Chains.{asked}
 use Rattle.links.specs.Links.{Linked}
 use Rattle.register.specs.Representation.{Represents}
-use Rattle.rows.specs.Rows.{labelled}
+use Rattle.rows.specs.RowSets.{labelled}
 use Rattle.generations.specs.Generations.{GenerationsAre, numbers, above, written}
 use Rattle.generations.specs.Inner.{Right, Leads, chosen}
 use Rattle.generations.proofs.AnswerLaws.{label-first, work-next, list-last, told, refuses, tells-numbers, tells-loop, book-numbers, book-loop}
@@ -27,10 +27,16 @@ abbrev start-of-links : tie.After-links → tie.Start
 start-of-links p = start-of-size (p .before .before .before)
 
 abbrev size-of-visit-all : tie.After-visit-all → tie.After-size
-size-of-visit-all p = let at-keep = p .before .before .before .before .before in let at-links = at-keep .before .before .before .before .before in at-links .before .before .before
+size-of-visit-all p =
+    let at-keep = p .before .before .before .before .before in
+    let at-links = at-keep .before .before .before .before .before in
+    at-links .before .before .before
 
 abbrev set-of-of-visit-all : tie.After-visit-all → tie.After-set-of
-set-of-of-visit-all p = let at-keep = p .before .before .before .before .before in let at-links = at-keep .before .before .before .before .before in at-links .before
+set-of-of-visit-all p =
+    let at-keep = p .before .before .before .before .before in
+    let at-links = at-keep .before .before .before .before .before in
+    at-links .before
 
 abbrev write-numbers-of-slice-known3 : tie.After-slice-known3 → tie.After-write-numbers
 write-numbers-of-slice-known3 p = p .before .before

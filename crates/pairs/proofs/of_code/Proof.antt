@@ -9,7 +9,7 @@ use Rattle.book.specs.Book.{Book}
 use Rattle.k2.specs.Bits.{bitAt}
 use Rattle.paths.specs.Questions.{by-trees}
 use Rattle.register.specs.Representation.{Represents}
-use Rattle.rows.specs.Rows.{pairsIn}
+use Rattle.rows.specs.RowSets.{pairsIn}
 use Rattle.query.specs.Evaluation.{Lettered}
 use Rattle.query.specs.AskingLaws.{asks-short, asks-pairs}
 use Rattle.query.specs.LetterLaws.{read-lettered}

@@ -13,8 +13,9 @@ use Rattle.k2.specs.Bits.{digit, bitAt}
 use Rattle.k2.specs.BitLaws.{Bits, bit-lt}
 use Rattle.k2.specs.PairSets.{Cells, union}
 use Rattle.bits.specs.BitSets.{put}
-use Rattle.rows.specs.Rows.{flat, crossedWords}
-use Rattle.links.specs.Links.{linkPair}
+use Rattle.rows.specs.Rows.{flat}
+use Rattle.rows.specs.RowSets.{crossedWords}
+use Rattle.links.specs.Parts.{linkPair}
 use Rattle.rows.specs.RowLaws.{crossed-all}
 use Rattle.rows.proofs.PutLaws.{lettersOf, crossing, letters-out, crossed-forward, crossed-against, crossed-is, crossed-start}
 use Rattle.rows.proofs.put_letters.Statement.{statement}

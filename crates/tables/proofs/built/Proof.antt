@@ -47,10 +47,11 @@ loop-holds c =
 
 step-requires : tie.Need-step-requires Inv-loop μ-loop
 step-requires c κs =
-    let start = start-of-loop (c .before .before .before .before .before) in
+    let at-loop = c .before .before .before .before .before in
+    let start = start-of-loop at-loop in
     let p = start .pre in
     let s = start .args .numbers .now in
-    let l = c .before .before .before .before .before .loop in (
+    let l = at-loop .loop in (
       l .inv .1,
       l .inv .2,
       l .inv .3,
@@ -84,9 +85,10 @@ alone c text e L q =
 
 inverted-requires : tie.Need-inverted-requires Inv-loop μ-loop
 inverted-requires c κs =
-    let p = start-of-loop-end (c .before .before .before .before) .pre in
-    let l = c .before .before .before .before .before .loop in
-    let z = alone-top (alone (c .before .before .before .before) (p .6 .0) (p .6 .1) (p .6 .2) (p .6 .3)) in
+    let after-loop = c .before .before .before .before in
+    let p = start-of-loop-end after-loop .pre in
+    let l = after-loop .before .loop in
+    let z = alone-top (alone after-loop (p .6 .0) (p .6 .1) (p .6 .2) (p .6 .3)) in
     (l .inv .1, l .inv .2, l .inv .3, z .0, z .1)
 
 returns : tie.Need-returns Inv-loop μ-loop

@@ -13,13 +13,19 @@ abbrev with-edges-of-with-edges2 : tie.After-with-edges2 → tie.After-with-edge
 with-edges-of-with-edges2 p = p .before .before .before .before
 
 abbrev start-of-only2 : tie.After-only2 → tie.Start
-start-of-only2 p = let at-only = p .before .before .before in let at-slice-known2 = at-only .before .before .before .before .before in at-slice-known2 .before .before
+start-of-only2 p =
+    let at-only = p .before .before .before in
+    let at-slice-known2 = at-only .before .before .before .before .before in
+    at-slice-known2 .before .before
 
 abbrev only-of-only2 : tie.After-only2 → tie.After-only
 only-of-only2 p = p .before .before .before
 
 abbrev only2-of-with-edges2 : tie.After-with-edges2 → tie.After-only2
-only2-of-with-edges2 p = let at-with-edges = p .before .before .before .before in let at-r3 = at-with-edges .before .before .before .before .before in at-r3 .before
+only2-of-with-edges2 p =
+    let at-with-edges = p .before .before .before .before in
+    let at-r3 = at-with-edges .before .before .before .before .before in
+    at-r3 .before
 
 returns : tie.Need-returns
 returns c =

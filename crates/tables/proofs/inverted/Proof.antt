@@ -9,7 +9,11 @@ use Rattle.tables.proofs.inverted.Tie as tie
 
 -- The places that the needs come back to.
 abbrev start-of-mirror : tie.After-mirror → tie.Start
-start-of-mirror p = let at-follow = p .before .before .before .before .before in let at-exchange = at-follow .before in let at-own = at-exchange .before .before .before .before .before in at-own .before .before .before .before
+start-of-mirror p =
+    let at-follow = p .before .before .before .before .before in
+    let at-exchange = at-follow .before in
+    let at-own = at-exchange .before .before .before .before .before in
+    at-own .before .before .before .before
 
 abbrev exchange-of-mirror : tie.After-mirror → tie.After-exchange
 exchange-of-mirror p = let at-follow = p .before .before .before .before .before in at-follow .before
