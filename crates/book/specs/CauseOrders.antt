@@ -1,5 +1,5 @@
 -- The orders in which causes are looked for, each as a list.
---   allCauses       every cause, in the order of this file
+--   allCauses       every cause, in the order of Causes
 --   editOrder, questionOrder, treeOrder, closeOrder, supportOrder, offsetsOrder
 --                   the causes of each kind of call, in the order in which they are looked for
 --   InOrder cs os   the causes cs are some of the order os, in that order

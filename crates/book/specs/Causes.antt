@@ -1,4 +1,4 @@
--- The causes of a refusal, their numbers, and the order in which they are looked for.
+-- The causes of a refusal, their numbers, and the first of several. The orders in which they are looked for are in CauseOrders.
 --   Cause           a row of the table of S6.3; the row of number 10 is two, since its two halves stand at different places in an order
 --   number c        the number of a cause
 --   Caused k        k is the number of a cause

@@ -1,4 +1,4 @@
--- The worked cases (S8.1, S8.4) as tables, and what it is for a case to be met.
+-- The worked cases K1 to K12 (S8.1) as a table, and what it is for a case to be met. The other tables are in RequestTables.
 --   Case            the pairs of an expression; the first chain; no chain of any length; the tree's bits
 --   Met g k         the text is an expression of the grammar, and of the graph g its meaning is as the case k says
 --   made n cs       the graph of the book after the calls cs, from a fresh one of n records
