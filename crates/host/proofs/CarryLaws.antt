@@ -2,8 +2,7 @@
 -- every register whose words they are.
 --   refused-done          a refused call is not accepted
 --   load-none, load-some  by the number of the answer: the words are no register's, or those of the register that was loaded
---   edit-foreign, edit-kept
---                         an edit over words that are no register's, and over a register's
+--   edit-kept             an edit over a register's words
 --   close-foreign, close-kept
 --                         closing up, in the same way
 --   size-first, room-short, room-enough
@@ -28,26 +27,25 @@ use lib.ListN.{length, take, drop}
 use borrow.Author.Tests.{lt-ltb, le-ltb}
 use Rattle.book.specs.Basics.{pick, bit}
 use Rattle.book.specs.Causes.{short-work, not-open, number, firstNumber, maxRecords}
-use Rattle.book.specs.Book.{Book, Call, close, freshAnswer}
+use Rattle.book.specs.Book.{Call, close, freshAnswer}
 use Rattle.answers.specs.Answers.{FirstPart}
+use Rattle.answers.specs.Written.{written, Wrote}
 use Rattle.answers.specs.AnswerLaws.{part-given}
 use Rattle.answers.specs.declared.Counted.{Counted}
 use Rattle.answers.specs.declared.Counted.the-variants.{Count}
 use Rattle.register.specs.Representation.{Represents}
-use Rattle.register.specs.Marks.{hasMark, Marked}
-use Rattle.register.specs.Counters.{InRange}
-use Rattle.register.specs.Calls.{answerOf, answerNumber, Opens, Steps, Closes}
+use Rattle.register.specs.Marks.{hasMark}
+use Rattle.register.specs.Calls.{answerNumber, Opens, Steps, Closes}
 use Rattle.register.specs.HistoryLaws.{number-answer}
 use Rattle.register.specs.Inner.{Shown}
-use Rattle.register.specs.Words.{stateWords, Keeps, Foreign, OfWords, Copies}
+use Rattle.register.specs.Words.{stateWords, Keeps, Foreign, OfWords, Edits}
 use Rattle.register.specs.Inner.{Loads, Stores}
 use Rattle.register.specs.MarkLaws.{represents-marked}
-use Rattle.register.specs.WordLaws.{keeps-long, keeps-same, load-done}
+use Rattle.register.specs.WordLaws.{keeps-long, keeps-same, load-done, edit-foreign, edit-stepped}
 use Rattle.register.specs.declared.Register.{Register}
 use Rattle.register.specs.declared.Outcome.{Outcome}
-use Rattle.register.specs.declared.Answer.{Answer}
 use Rattle.register.specs.declared.Answer.the-variants.{Done, Refused}
-use Rattle.host.specs.Host.{freshNumber, Freshens, Edits, refusal, toldCounted, Told, Asked}
+use Rattle.host.specs.Host.{freshNumber, Freshens, refusal, toldCounted, Told, Asked}
 use Rattle.host.specs.Histories.{Renumbers}
 use Rattle.host.specs.Inner.{Finishes, refused, kept, lost}
 
@@ -64,66 +62,24 @@ module _ {ws : List ℕ} {o : Outcome} {k : ℕ} (l : Loads ws o) (e : k ≡ ans
   load-some z = l .loaded (load-done l (sym e ∙ z))
 
 -- ---- edits
-pub edit-foreign : (c : Call) (ws : List ℕ) → Foreign ws → Edits c ws ws (number not-open)
-edit-foreign c ws f = record { refused = λ _. refl; past = refl; foreign = λ _. refl; steps = λ r k. absurd (f r k) }
-
-abbrev Stepped : Call → List ℕ → ℕ → Register → Type 0
-Stepped c after k s = (o : Outcome) × Steps s c o × (k ≡ answerNumber (o .answer)) × Keeps after (o .register)
-
-module _ {c : Call} {before after : List ℕ} {k : ℕ} {r : Register} (w : Keeps before r) where
-  stepped : ((k ≡ 0 → ⊥) → after ≡ before) → drop stateWords after ≡ drop stateWords before → Stepped c after k r → Edits c before after k
-  stepped e p t = record { refused = e; past = p; foreign = λ f. absurd (f r w); steps = λ s v. subst (Stepped c after k) (keeps-same w v) t }
-
-  pub edit-kept : {o : Outcome} → Steps r c o → Finishes o before after k → Edits c before after k
-  unfolding number
-  edit-kept {o} t (refused n e a) =
-      stepped (λ _. a) (ap (drop stateWords) a) (o, t, e, subst (λ (ws : List ℕ). Keeps ws (o .register)) (sym a) (subst (Keeps before) (sym (t .refused n)) w))
-  edit-kept {o} t (kept n e v p) = stepped (λ z. absurd (z e)) p (o, t, e ∙ sym (ap answerNumber n), v)
-  edit-kept {o} t (lost e a g) =
-      stepped (λ _. a) (ap (drop stateWords) a) (
-        record { register = r; answer = answerOf (number not-open) },
-        unmet,
-        told e,
-        subst (λ (ws : List ℕ). Keeps ws r) (sym a) w,
-      )
-    where
-      none : (b : Book) → Represents r b → ⊥
-      none b h = g (keeps-long w) (t .follows b h .ranged) (represents-marked (t .follows b h))
-
-      told : {j : ℕ} → j ≡ number not-open → j ≡ answerNumber (answerOf (number not-open))
-      told q = q ∙ sym (number-answer (number not-open))
-
-      told-as : {j : ℕ} → answerOf (number not-open) ≡ Refused j → number not-open ≡ j
-      told-as q = cc
-
-      unmet : Steps r c (record { register = r; answer = answerOf (number not-open) })
-      unmet =
-          record {
-            caused = λ j q. (not-open, sym (told-as q));
-            refused = λ _. refl;
-            foreign = λ _. refl;
-            answers = λ b h. absurd (none b h);
-            follows = λ b h. absurd (none b h);
-          }
+pub edit-kept : {c : Call} {before after : List ℕ} {k : ℕ} {r : Register} → Keeps before r → {o : Outcome} → Steps r c o → Finishes o before after k
+    → Edits c before after k
+edit-kept {before = before} w {o} t (refused n e a) =
+    edit-stepped o w (λ _. a) (ap (drop stateWords) a) t e
+    (subst (λ (ws : List ℕ). Keeps ws (o .register)) (sym a) (subst (Keeps before) (sym (t .refused n)) w))
+edit-kept w {o} t (kept n e v p) = edit-stepped o w (λ z. absurd (z e)) p t (e ∙ sym (ap answerNumber n)) v
+edit-kept w t (lost n e a g) = let f = t .formed n in absurd (g (keeps-long w) (f .0) (f .1 (w .marked)))
 
 -- ---- closing up
 pub close-foreign : (ws list : List ℕ) → Foreign ws → Renumbers (record { before = ws; after = ws }) (record { before = list; after = list }) (number not-open)
 close-foreign ws list f =
     record { edits = edit-foreign (close (length list)) ws f; refused = λ _. refl; past = λ r k. refl; given = λ b h. absurd (f (h .0) (h .1)) }
 
--- what a closing up hands back has words, accepted or not
-formed : {before list list′ : List ℕ} {r : Register} {o : Outcome} → Keeps before r → Closes r list list′ o → (a : Answer) → o .answer ≡ a
-    → InRange (o .register) × Marked (o .register .marks)
-formed w c Done e = c .formed e
-formed w c (Refused j) e =
-    let s = c .steps .refused (λ d. refused-done (sym e ∙ d)) in
-    (subst InRange (sym s) (w .ranged), subst (λ (q : Register). Marked (q .marks)) (sym s) (w .marked))
-
 list-left : {before after list list′ : List ℕ} {k : ℕ} {r : Register} {o : Outcome} → Keeps before r → Closes r list list′ o → Finishes o before after k
     → (k ≡ 0 → ⊥) → list′ ≡ list
 list-left w c (refused n e a) z = c .refused n
 list-left w c (kept n e v p) z = absurd (z e)
-list-left {o = o} w c (lost e a g) z = let m = formed w c (o .answer) refl in absurd (g (keeps-long w) (m .0) (m .1))
+list-left w c (lost n e a g) z = let m = c .formed n in absurd (g (keeps-long w) (m .0) (m .1))
 
 pub close-kept : {before after list list′ : List ℕ} {k : ℕ} {r : Register} {o : Outcome} → Keeps before r → Closes r list list′ o → Finishes o before after k
     → Renumbers (record { before = before; after = after }) (record { before = list; after = list′ }) k
@@ -209,12 +165,13 @@ module _ {A : Type 0} {ws : List ℕ} {P : Register → A → Type 0} {f : A →
   asked {r} w a p e = record { answers = λ s v. subst (λ (t : Register). Told (P t) f k) (keeps-same w v) (a, p, e); foreign = λ g. absurd (g r w) }
 
 -- words copied to the front of a list, the first that it takes
-pub copied : {before after : List ℕ} (l xs : List ℕ) {ok : Bool} → Copies xs 0 before after ok → length xs ≤ length before → xs ≡ take (length before) l
+pub copied : {before after : List ℕ} {q : ℕ} (l xs : List ℕ) → Wrote 0 xs before after q → xs ≡ take (length before) l
     → FirstPart l before after (Count (length l))
-copied {before} {after} l xs c h q =
+unfolding written
+copied {before} {after} l xs c q =
     let z : 0 + length xs ≡ length xs = omega arith in
     part-given l before after (length l) refl
-    (c .fits (omega (arith, h)) .1 ∙ ap (λ (j : ℕ). xs ++ drop j before) z ∙ ap (λ (ys : List ℕ). ys ++ drop (length ys) before) q)
+    (c .contents ∙ ap (λ (j : ℕ). xs ++ drop j before) z ∙ ap (λ (ys : List ℕ). ys ++ drop (length ys) before) q)
 
 pub asked-list : {ws before after part : List ℕ} {k : ℕ} {Q : Register → Counted → Type 0} (f : Register → List ℕ) → Shown ws f part
     → Asked ws (λ _. FirstPart part before after) toldCounted before after k

@@ -16,10 +16,10 @@ use lib.ListN.{length, drop, replicate}
 use Rattle.book.specs.Basics.{over}
 use Rattle.book.specs.Book.{Book, Edit, Call, edit, undo, close, given}
 use Rattle.register.specs.History.{Lent}
-use Rattle.register.specs.Words.{Keeps}
+use Rattle.register.specs.Words.{Keeps, Edits}
 use Rattle.register.specs.declared.Register.{Register}
 use Rattle.register.specs.Drafts.{draftCalls}
-use Rattle.host.specs.Host.{KeepsBook, pastCounts, Freshens, Edits}
+use Rattle.host.specs.Host.{KeepsBook, pastCounts, Freshens}
 use Rattle.host.specs.Drafts.{Applies}
 
 pub record Renumbers (state numbers : Lent) (k : ℕ) : Type 0 where

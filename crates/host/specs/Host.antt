@@ -5,9 +5,6 @@
 --                   the number of asking for a fresh register in a state of so many words: n outside 1 to 1,024, or a state shorter than a register's
 --   Freshens n before after k
 --                   what asking for a fresh register promises: the number k, and the words after it
---   Edits c before after k
---                   what an edit or undo promises: over any words a refused one leaves them; words that are no register's are refused with 16; of a
---                   register's words the number and the words after it are those of an outcome that the call c promises
 --   toldChain a     the answer of a chain question told as a number of 64 bits: a count, `pastCounts` for no chain, or a refusal
 --   Told P f k      k tells an answer, by f, that P promises
 --   Asked ws P f before after k
@@ -29,16 +26,14 @@ use lib.ListN.{length, take, drop}
 use lib.Dec.{ltb}
 use Rattle.book.specs.Basics.{bit}
 use Rattle.book.specs.Causes.{bad-size, short-work, not-open, number, firstNumber, maxRecords}
-use Rattle.book.specs.Book.{Book, Call, fresh}
+use Rattle.book.specs.Book.{Book, fresh}
 use Rattle.answers.specs.Answers.{FirstPart}
 pub use Rattle.answers.specs.Answers.{pastCounts, refusal, toldCounted}
 use Rattle.answers.specs.declared.Counted.{Counted}
 use Rattle.register.specs.Representation.{Represents}
-use Rattle.register.specs.Calls.{answerNumber, Steps}
 use Rattle.register.specs.Questions.{Sized, Listing, Locking, Withdrawal, Totals}
 use Rattle.register.specs.Words.{stateWords, Keeps, Foreign, OfWords}
 use Rattle.register.specs.declared.Register.{Register}
-use Rattle.register.specs.declared.Outcome.{Outcome}
 use Rattle.register.specs.declared.Links.{Links}
 use Rattle.chains.specs.declared.ChainAnswer.{ChainAnswer}
 use Rattle.chains.specs.declared.ChainAnswer.the-variants.{Chain, NoChain, Refused}
@@ -54,12 +49,6 @@ pub record Freshens (n : ℕ) (before after : List ℕ) (k : ℕ) : Type 0 where
   pub refused : (k ≡ 0 → ⊥) → after ≡ before
   pub made : k ≡ 0 → KeepsBook after (fresh n)
   pub past : drop stateWords after ≡ drop stateWords before
-
-pub record Edits (c : Call) (before after : List ℕ) (k : ℕ) : Type 0 where
-  pub refused : (k ≡ 0 → ⊥) → after ≡ before
-  pub past : drop stateWords after ≡ drop stateWords before
-  pub foreign : Foreign before → k ≡ number not-open
-  pub steps : (r : Register) → Keeps before r → (o : Outcome) × Steps r c o × (k ≡ answerNumber (o .answer)) × Keeps after (o .register)
 
 abbrev pub toldChain : ChainAnswer → ℕ
 toldChain (Chain k) = k

@@ -25,7 +25,7 @@ use Rattle.register.specs.History.{Lent, CallsMade, Gives, none-given, more-giv
 use Rattle.register.specs.HistoryLaws.{number-answer, answered, kept, given-lent, after-append}
 use Rattle.register.specs.LaidLaws.{givens-append}
 use Rattle.register.specs.Questions.{totalAnswer}
-use Rattle.register.specs.Words.{stateWords}
+use Rattle.register.specs.Words.{stateWords, Edits}
 use Rattle.query.specs.Asking.{Asks}
 use Rattle.chains.specs.Replies.{BookReplies, Replies, chainCounted}
 use Rattle.chains.specs.declared.ChainAnswer.{ChainAnswer}
@@ -35,7 +35,7 @@ use Rattle.register.specs.declared.DraftAnswer.{DraftAnswer}
 use Rattle.host.specs.Drafts.{Applies}
 use Rattle.host.specs.DraftLaws.{made-told}
 use Rattle.host.specs.Histories.{Calls, none, then-edit, then-undo, then-close, then-draft, refused-draft, WordsMade}
-use Rattle.host.specs.Host.{KeepsBook, Edits, pastCounts, toldCounted, toldChain, Told, Asked, TellsTotal}
+use Rattle.host.specs.Host.{KeepsBook, pastCounts, toldCounted, toldChain, Told, Asked, TellsTotal}
 
 pub edits-book : {c : Call} {ws vs : List ℕ} {k : ℕ} → Edits c ws vs k → (b : Book) → KeepsBook ws b → (k ≡ answer b c) × KeepsBook vs (next b c)
 edits-book e b h =

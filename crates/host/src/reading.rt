@@ -2,6 +2,7 @@
 ghost use Rattle.answers.specs.Answers.{FirstPart};
 ghost use Rattle.host.specs.Host.{toldCounted, Asked, Lists};
 ghost use Rattle.host.specs.Reading.{ReadsTotals, ReadsMarks};
+use answers::copy_u32;
 use answers::told_refusal;
 
 // Words read of a state, written to the front of a list, as many as it takes; how many they are in all. Refused with 16 if the state is no register's.
@@ -13,7 +14,7 @@ fn told_words(state: &[u32], words: &[u32], list: &mut [u32]) -> u64
         return told_refusal(book::NOT_OPEN);
     }
     let first = register::fitting(words, list.len());
-    register::copy(&words[..first], list, 0);
+    copy_u32(&words[..first], list, 0);
     words.len() as u64
 }
 

@@ -1,4 +1,4 @@
--- `host::edits::dating_undo` is `edit` with the call Undo. Assumes nothing.
+-- `host::edits::dating_undo` is `register::edit_in` with the call Undo. Assumes nothing.
 use Rattle.register.specs.Calls.{callOf}
 use borrow.Author.Needs.{needs}
 use Rattle.host.proofs.edits.dating_undo.Statement.{statement}
@@ -6,7 +6,7 @@ use Rattle.host.proofs.edits.dating_undo.Tie as tie
 
 returns : tie.Need-returns
 unfolding callOf
-returns c = c .before .before .edit .ensures
+returns c = c .before .before .edit-in .ensures
 
 pub dating-undo-spec : {M : Type 1} → statement M
 dating-undo-spec =

@@ -1,4 +1,4 @@
--- `host::edits::dating_withdraw` is `edit` with the call Withdraw. Assumes nothing.
+-- `host::edits::dating_withdraw` is `register::edit_in` with the call Withdraw. Assumes nothing.
 use Rattle.register.specs.Calls.{callOf}
 use borrow.Author.Needs.{needs}
 use Rattle.host.proofs.edits.dating_withdraw.Statement.{statement}
@@ -6,7 +6,7 @@ use Rattle.host.proofs.edits.dating_withdraw.Tie as tie
 
 returns : tie.Need-returns
 unfolding callOf
-returns c = c .before .before .edit .ensures
+returns c = c .before .before .edit-in .ensures
 
 pub dating-withdraw-spec : {M : Type 1} → statement M
 dating-withdraw-spec =

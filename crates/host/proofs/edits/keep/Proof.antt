@@ -11,7 +11,9 @@ use Rattle.host.proofs.edits.keep.Tie as tie
 
 returns : tie.Need-returns
 unfolding number
-returns c = let q = c .before .before .before .store .ensures .refused (not-true _ (c .if1 .taken)) in lost refl (q .0) (q .1)
+returns c =
+    let q = c .before .before .before .store .ensures .refused (not-true _ (c .if1 .taken)) in
+    lost (c .before .before .before .before .before .before .enum-told .given .1) refl (q .0) (q .1)
 
 returns-2 : tie.Need-returns-2
 returns-2 c = let g = c .before .answer .given .1 in refused (λ d. refused-done (sym g ∙ d)) (sym (ap answerNumber g)) refl

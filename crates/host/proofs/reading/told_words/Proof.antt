@@ -1,6 +1,5 @@
 -- `host::reading::told_words` copies the first of the words, as many as the list takes, to its front. Assumes nothing.
 use mathlib.Core.Path.{_≡_, refl, sym}
-use Prim.Native.Nat.{_≤_}
 use native.Mathlib.Omega.{arith}
 use lib.ListN.{length, take}
 use lib.Seq.{length-take-le}
@@ -23,8 +22,11 @@ long : (c : tie.After-fitting)
     → length (take (c .fitting .result) (c .before .before .before .before .before .before .args .words .now)) ≡ c .fitting .result
 long c = length-take-le _ _ (c .fitting .ensures .0)
 
-slice-aggregate-copy : tie.Need-slice-aggregate-copy
-slice-aggregate-copy c = sym (long (c .before))
+slice-aggregate-copy-u32 : tie.Need-slice-aggregate-copy-u32
+slice-aggregate-copy-u32 c = sym (long (c .before))
+
+copy-u32-requires : tie.Need-copy-u32-requires
+copy-u32-requires c κs = omega (arith, long (c .before .before), c .before .before .fitting .ensures .1)
 
 returns-2 : tie.Need-returns-2
 returns-2 c =
@@ -33,9 +35,8 @@ returns-2 c =
     let a = else1 .before .before .before .before .before .args in
     let f = after-fitting .fitting in
     let k = else1 .before .is-register .ensures .sure (not-false _ (else1 .if1 .left)) .1 in
-    let h : length (take (f .result) (a .words .now)) ≤ length (a .list .now) = omega (arith, long after-fitting, f .ensures .1) in
     asked k (Count (length (a .words .now)))
-    (copied (a .words .now) (take (f .result) (a .words .now)) (c .before .before .copy .ensures) h (f .ensures .2)) refl
+    (copied (a .words .now) (take (f .result) (a .words .now)) (c .before .before .copy-u32 .ensures) (f .ensures .2)) refl
 
 pub told-words-spec : {M : Type 1} → statement M
 told-words-spec =
@@ -44,6 +45,7 @@ told-words-spec =
     (λ c κs. search needs) (λ c κs. search needs)
     returns
     (λ c κs. search needs)
-    slice-aggregate-copy
-    (λ c κs. search needs) (λ c. search needs)
+    slice-aggregate-copy-u32
+    copy-u32-requires
+    (λ c. search needs)
     returns-2)
