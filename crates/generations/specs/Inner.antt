@@ -46,7 +46,7 @@ use Rattle.paths.specs.Chains.{asked, Step, stepWords}
 use Rattle.paths.specs.Questions.{chainWork}
 use Rattle.register.specs.declared.Register.{Register}
 use Rattle.register.specs.Representation.{Represents}
-use Rattle.generations.specs.Generations.{FirstLoop, Outcome, unless, listAfter}
+use Rattle.generations.specs.Generations.{FirstLoop, Outcome, unless, listAfter, loop}
 use Rattle.generations.specs.declared.GenerationsAnswer.{GenerationsAnswer}
 use Rattle.generations.specs.Generating.{outcomeOf, generationsCounted}
 
