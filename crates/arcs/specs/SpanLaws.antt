@@ -18,7 +18,8 @@ use Rattle.paths.specs.Chains.{asked}
 use Rattle.paths.specs.ChainLaws.{Inside}
 use Rattle.paths.specs.PairLaws.{in-use, fit-inside}
 use Rattle.register.specs.declared.Register.{Register}
-use Rattle.links.specs.Links.{linkWord, linkOf}
+use Rattle.links.specs.Links.{linkWord}
+use Rattle.links.specs.Parts.{linkOf}
 use Rattle.links.specs.LinkLaws.{linkOf-word}
 use Rattle.register.specs.Marks.{withdrawnMark}
 use Rattle.register.specs.Representation.{Represents}

@@ -29,8 +29,10 @@ use borrow.Author.Tests.{leb-false, not-false, eq-eqb, eqb-true, ne-eqb}
 use Rattle.book.specs.Basics.{pick, In, here, there, has, without, All, all-none, all-more}
 use Rattle.book.specs.Causes.{Cause, bad-size, no-record, bad-label, locked-end, already, missing, full, none-held, no-expression, too-many-bytes}
 use Rattle.book.specs.Causes.{too-large, bad-tree, short-work, short-list, broken-frame, unknown-kind, not-open, touched-record, withdrawn-record}
-use Rattle.book.specs.Causes.{bad-tie, unordered-anchors, none-in-use, number, Caused, editOrder, closeOrder, firstNumber, InOrder, none-left, same-cause}
-use Rattle.book.specs.Causes.{passed-over, maxRecords, labels, maxLinks, maxHeld}
+use Rattle.book.specs.Causes.{bad-tie, unordered-anchors, none-in-use, number, Caused, firstNumber}
+use Rattle.book.specs.CauseOrders.{editOrder, closeOrder, InOrder, none-left, same-cause}
+use Rattle.book.specs.Causes.{maxRecords, labels, maxLinks, maxHeld}
+use Rattle.book.specs.CauseOrders.{passed-over}
 use Rattle.book.specs.Book.{Link, sameLink, Sheet, Book, Edit, add, remove, lock, unlock, withdraw, reinstate, Call, edit, undo, close, present, isLocked}
 use Rattle.book.specs.Book.{isWithdrawn, touched, used, causes, editAnswer, edited, turned, undoAnswer, undone, closeCauses, closeAnswer, closed, answer}
 use Rattle.book.specs.Book.{next, fresh, after}

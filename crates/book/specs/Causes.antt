@@ -1,12 +1,8 @@
--- The causes of a refusal, their numbers, and the order in which they are looked for.
+-- The causes of a refusal, their numbers, and the first of several. The orders in which they are looked for are in CauseOrders.
 --   Cause           a row of the table of S6.3; the row of number 10 is two, since its two halves stand at different places in an order
---   allCauses       every cause, in the order of this file
 --   number c        the number of a cause
 --   Caused k        k is the number of a cause
---   editOrder, questionOrder, treeOrder, closeOrder, supportOrder, offsetsOrder
---                   the causes of each kind of call, in the order in which they are looked for
 --   firstNumber cs  of causes, each with whether it is there: the number of the first that is there, or 0 if none is
---   InOrder cs os   the causes cs are some of the order os, in that order
 --   maxRecords, labels, maxLinks, maxHeld, maxBytes, maxLetters, maxDepth
 --                   the limits
 -- Assumes nothing: these are definitions.
@@ -62,11 +58,6 @@ pub data Cause : Type 0 where
   -- closing up with no record in use
   none-in-use : Cause
 
-unfoldable pub allCauses : List Cause
-allCauses =
-    bad-size ∷ no-record ∷ bad-label ∷ locked-end ∷ already ∷ missing ∷ full ∷ none-held ∷ no-expression ∷ too-many-bytes ∷ too-large ∷ bad-tree ∷ short-work ∷
-    short-list ∷ broken-frame ∷ unknown-kind ∷ not-open ∷ touched-record ∷ withdrawn-record ∷ bad-tie ∷ unordered-anchors ∷ none-in-use ∷ []
-
 unfoldable pub number : Cause → ℕ
 number bad-size = 1
 number no-record = 2
@@ -94,35 +85,9 @@ number none-in-use = 21
 abbrev pub Caused : ℕ → Type 0
 Caused k = (c : Cause) × (k ≡ number c)
 
--- the orders: edits 2, 18, 3, 4, 5, 6, 7, 17; questions 2, 10 for bytes, 9, 10 for letters and depth, 12, 13; trees 1, 2, 11, 12, 13;
--- closing up 21, 13; sole support 2, 20, 10 for bytes, 9, 10 for letters and depth, 12, 13;
--- offsets 2, 18, 19, 12, 13, with "cannot all hold", which is no refusal, before 13
-unfoldable pub editOrder : List Cause
-editOrder = no-record ∷ withdrawn-record ∷ bad-label ∷ locked-end ∷ already ∷ missing ∷ full ∷ touched-record ∷ []
-
-unfoldable pub questionOrder : List Cause
-questionOrder = no-record ∷ too-many-bytes ∷ no-expression ∷ too-large ∷ short-work ∷ short-list ∷ []
-
-unfoldable pub treeOrder : List Cause
-treeOrder = bad-size ∷ no-record ∷ bad-tree ∷ short-work ∷ short-list ∷ []
-
-unfoldable pub closeOrder : List Cause
-closeOrder = none-in-use ∷ short-list ∷ []
-
-unfoldable pub supportOrder : List Cause
-supportOrder = no-record ∷ unordered-anchors ∷ too-many-bytes ∷ no-expression ∷ too-large ∷ short-work ∷ short-list ∷ []
-
-unfoldable pub offsetsOrder : List Cause
-offsetsOrder = no-record ∷ withdrawn-record ∷ bad-tie ∷ short-work ∷ short-list ∷ []
-
 unfoldable pub firstNumber : List (Cause × Bool) → ℕ
 firstNumber [] = 0
 firstNumber (c ∷ cs) = pick (c .1) (number (c .0)) (firstNumber cs)
-
-pub data InOrder : List (Cause × Bool) → List Cause → Type 0 where
-  none-left : {os : List Cause} → InOrder [] os
-  same-cause : {c : Cause} {t : Bool} {cs : List (Cause × Bool)} {os : List Cause} → InOrder cs os → InOrder ((c, t) ∷ cs) (c ∷ os)
-  passed-over : {o : Cause} {cs : List (Cause × Bool)} {os : List Cause} → InOrder cs os → InOrder cs (o ∷ os)
 
 -- the limits
 abbrev pub maxRecords : ℕ

@@ -2,7 +2,8 @@
 // The contracts of `numbers` and `limits` say that each is the one that specs/Causes.antt has.
 ghost use mathlib.Core.Path.{_≡_};
 ghost use mathlib.Core.List.{map, [], _∷_};
-ghost use Rattle.book.specs.Causes.{number, allCauses, maxRecords, labels, maxLinks, maxHeld, maxBytes, maxLetters, maxDepth};
+ghost use Rattle.book.specs.Causes.{number, maxRecords, labels, maxLinks, maxHeld, maxBytes, maxLetters, maxDepth};
+ghost use Rattle.book.specs.CauseOrders.{allCauses};
 
 pub const BAD_SIZE: u32 = 1;
 

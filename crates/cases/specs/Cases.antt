@@ -30,8 +30,9 @@ use Rattle.paths.specs.PairLaws.{pairs-are, history-inside, history-small}
 use Rattle.paths.specs.ChainOrderLaws.{before}
 use Rattle.paths.specs.AcceptanceLaws.{parted, many, accepts}
 use Rattle.paths.specs.FirstChainLaws.{reach, stepsBelow, before-each, after-each, walks, walksTo, end, best, just, firstTo, chainTo, chain-first}
-use Rattle.cases.specs.Tables.{bytes, Case, pairs-of, chain-of, none-of, tree-of, wordOf, Met, made, links, table, struck, struck-table, returned}
-use Rattle.cases.specs.Tables.{returned-table, ring, ring-table, swapped-table, ties, ties-table, sets-table, set-ties-table}
+use Rattle.cases.specs.Tables.{bytes, Case, pairs-of, chain-of, none-of, tree-of, wordOf, Met, made, links, table}
+use Rattle.cases.specs.RequestTables.{struck, struck-table, returned}
+use Rattle.cases.specs.RequestTables.{returned-table, ring, ring-table, swapped-table, ties, ties-table, sets-table, set-ties-table}
 
 -- ---- a case from what is computed
 read : (t : String) (e : Expr) → verdict (bytes t) ≡ accepted e → Judged (bytes t) (accepted e)

@@ -1,3 +1,4 @@
 pub mod Tables
+pub mod RequestTables
 pub mod Cases
 pub mod Texts

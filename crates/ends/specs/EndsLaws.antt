@@ -24,7 +24,7 @@ use Prim.Native.Nat.{ℕ, zero, suc, _≤_, _<_}
 use native.Mathlib.Omega.{arith}
 use native.Mathlib.Decide.{decLt}
 use Rattle.book.specs.Basics.{In, here, there, Rises, ended, rises}
-use Rattle.book.specs.Causes.{questionOrder, InOrder, same-cause, passed-over, none-left}
+use Rattle.book.specs.CauseOrders.{questionOrder, InOrder, same-cause, passed-over, none-left}
 use Rattle.book.specs.Book.{Book}
 use Rattle.book.specs.ListLaws.{in-left, in-right, in-either, in-none, in-one, rises-same}
 use Rattle.k2.specs.PairSets.{ifSet, transpose, pairWord}

@@ -41,7 +41,8 @@ use Rattle.register.specs.Marks.{hasMark, withdrawnMark}
 use Rattle.register.specs.MarkLaws.{listed-withdrawn}
 use Rattle.register.specs.Representation.{Represents}
 use Rattle.register.specs.Questions.{Sized, MarkList}
-use Rattle.rows.specs.Rows.{labelled, places, crossedWords}
+use Rattle.rows.specs.Rows.{places}
+use Rattle.rows.specs.RowSets.{labelled, crossedWords}
 use Rattle.answers.specs.Answers.{counted, Contained}
 use Rattle.answers.specs.AnswerLaws.{contained-refused, contained-count}
 use Rattle.answers.specs.Written.{written as text-written, Wrote}
@@ -54,7 +55,8 @@ use Rattle.generations.specs.Generations.{OutcomeIs, not-asked, answered
 use Rattle.generations.specs.GenerationsLaws.{returns-longer}
 use Rattle.generations.specs.LoopLaws.{loopExpr, loop-in-use, loop-answers, loop-is-first, first-is-loop, loop-labels, set-verdict}
 use Rattle.generations.specs.Inner.{Contains, Right, Leads, chosen, Smallest, Closed, loopText}
-use Rattle.generations.specs.Generating.{outcomeOf, generationsCounted, Generates, loopOutcome, Looped}
+use Rattle.generations.specs.Generating.{outcomeOf, generationsCounted, Generates}
+use Rattle.generations.specs.Inner.{loopOutcome, Looped}
 use Rattle.generations.specs.declared.GenerationsAnswer.{GenerationsAnswer}
 use Rattle.generations.specs.declared.GenerationsAnswer.the-variants.{Numbers, Loop, Refused}
 use Rattle.generations.proofs.RunLaws.{top-longest, leads-returns, links-set, closed-returns, returns-closed}

@@ -31,7 +31,8 @@ use Rattle.k2.specs.PairSets.{ifSet}
 use Rattle.bits.specs.BitSets.{put}
 use Rattle.bits.specs.BitSetLaws.{put-at, put-off, digit-or-pow}
 use Rattle.paths.specs.Grammar.{bar, open-group, letter-a}
-use Rattle.rows.specs.Rows.{labelled, places}
+use Rattle.rows.specs.Rows.{places}
+use Rattle.rows.specs.RowSets.{labelled}
 use Rattle.generations.specs.Generations.{above}
 use Rattle.generations.specs.Inner.{Contains, separatorAt, lettersAfter}
 

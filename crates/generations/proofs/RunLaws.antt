@@ -30,9 +30,10 @@ use Rattle.paths.specs.PairLaws.{fit-inside}
 use Rattle.paths.specs.Relations.{crossedBy}
 use Rattle.paths.specs.RelationLaws.{crossed-is, is-crossed, crossed-set}
 use Rattle.reader.specs.Letters.{lettersIn}
-use Rattle.links.specs.Links.{linkWord, linkOf, Linked}
+use Rattle.links.specs.Links.{linkWord, Linked}
+use Rattle.links.specs.Parts.{linkOf}
 use Rattle.links.specs.LinkLaws.{linkOf-word}
-use Rattle.rows.specs.Rows.{labelled, crossedWords}
+use Rattle.rows.specs.RowSets.{labelled, crossedWords}
 use Rattle.query.specs.LetterLaws.{letters-crossed}
 use Rattle.arcs.specs.Arcs.{arcFrom, arcTo}
 use Rattle.generations.specs.Generations.{Run, stop as stop-run, on as on-run, Longest, Over, Returns}

@@ -7,26 +7,18 @@
 --   Generates self ls work list list′ r
 --                   over any contents: the answer fits the list, the words past it are as they were, all of them with a refusal, and a refusal has the
 --                   number of a cause. For every book that the register represents: the outcome is the book's, and so is the list
---   Looped self m x work list list′ r
---                   what the inner function promises that asks for the first loop of x over links whose label is in the set m: over any contents the same; for
---                   every book and labels with a first loop, that loop, or 13 where the list is too short for it
 -- Assumes nothing: these are definitions.
 use mathlib.Core.Path.{_≡_}
-use mathlib.Core.List.{List, [], _∷_}
-use Prim.Native.Nat.{ℕ, _≤_}
+use mathlib.Core.List.{List}
+use Prim.Native.Nat.{ℕ}
 use lib.ListN.{length, take}
-use lib.Dec.{ltb}
-use Rattle.book.specs.Causes.{short-list, firstNumber}
 use Rattle.book.specs.Book.{Book}
 use Rattle.answers.specs.Answers.{counted, Contained}
 use Rattle.answers.specs.declared.Counted.{Counted}
 use Rattle.answers.specs.declared.Counted.the-variants.{Count, Refused as Untold}
-use Rattle.paths.specs.Chains.{asked, Step, stepWords}
-use Rattle.paths.specs.Questions.{chainWork}
 use Rattle.register.specs.declared.Register.{Register}
 use Rattle.register.specs.Representation.{Represents}
-use Rattle.generations.specs.Generations.{FirstLoop, Outcome, refused, numbers, loop, unless, OutcomeIs, listAfter}
-use Rattle.generations.specs.Inner.{Contains}
+use Rattle.generations.specs.Generations.{Outcome, refused, numbers, loop, OutcomeIs, listAfter}
 use Rattle.generations.specs.declared.GenerationsAnswer.{GenerationsAnswer}
 use Rattle.generations.specs.declared.GenerationsAnswer.the-variants.{Numbers, Loop, Refused}
 
@@ -46,11 +38,3 @@ BookGenerates b ls work list list′ r = OutcomeIs b ls work (length list) (outc
 pub record Generates (self : Register) (ls : List ℕ) (work : ℕ) (list list′ : List ℕ) (r : GenerationsAnswer) : Type 0 where
   pub contained : Contained (length list) (counted (generationsCounted r)) list list′ (generationsCounted r)
   pub book : (b : Book) → Represents self b → BookGenerates b ls work list list′ r
-
-abbrev pub loopOutcome : ℕ → List ℕ → Outcome
-loopOutcome room ws = unless (firstNumber ((short-list, ltb room (length ws)) ∷ [])) (loop ws)
-
-pub record Looped (self : Register) (m x work : ℕ) (list list′ : List ℕ) (r : GenerationsAnswer) : Type 0 where
-  pub contained : Contained (length list) (counted (generationsCounted r)) list list′ (generationsCounted r)
-  pub first : (b : Book) → Represents self b → chainWork (b .n) ≤ work → (ls : List ℕ) → Contains m ls → (ss : List Step) → FirstLoop (asked b) ls x ss
-      → (outcomeOf r list′ ≡ loopOutcome (length list) (stepWords ss)) × (list′ ≡ listAfter (outcomeOf r list′) list)

@@ -13,8 +13,8 @@
 --   generationsWork n    the words of work that are needed
 --   written o, listAfter o l
 --                        the words of an outcome, and what a result list that held l holds then
---   generationsOrder, argumentCauses, generationsCauses
---                        the causes of a refusal in their order; those that do not hang on the answer, and all of them
+--   argumentCauses, generationsCauses
+--                        the causes of a refusal in their order: those that do not hang on the answer, and all of them
 --   OutcomeIs b ls work room o
 --                        o is the outcome with so many words of work and room for so many in the list
 -- Assumes nothing: these are definitions.
@@ -79,10 +79,6 @@ unfoldable pub written : Outcome → List ℕ
 written (refused k) = []
 written (numbers l) = l
 written (loop ws) = ws
-
--- the order: 3, 12, 13
-unfoldable pub generationsOrder : List Cause
-generationsOrder = bad-label ∷ short-work ∷ short-list ∷ []
 
 unfoldable pub argumentCauses : Book → List ℕ → ℕ → List (Cause × Bool)
 argumentCauses b ls work = (bad-label, above ls) ∷ (short-work, ltb work (generationsWork (b .n))) ∷ []

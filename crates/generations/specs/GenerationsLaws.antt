@@ -18,13 +18,15 @@ use Prim.Native.Nat.{ℕ, suc, _+_, _<_}
 use native.Mathlib.Omega.{arith}
 use lib.ListN.{length}
 use Rattle.book.specs.Basics.{pick, All, all-none, all-more}
-use Rattle.book.specs.Causes.{firstNumber, InOrder, none-left, same-cause}
+use Rattle.book.specs.Causes.{firstNumber}
+use Rattle.book.specs.CauseOrders.{InOrder, none-left, same-cause}
 use Rattle.book.specs.Book.{Book}
 use Rattle.paths.specs.Chains.{Graph, Step, crossing, Chain, stay, cross, stepWords}
 use Rattle.paths.specs.ChainOrderLaws.{not-after-both}
 use Rattle.automaton.specs.LevelLaws.{Which, less, same, more, which}
 use Rattle.generations.specs.Generations.{Run, on, Longest, Over, Returns, FirstLoop, Numbered, no-record, not-in-use, in-use, Outcome, refused, numbers}
-use Rattle.generations.specs.Generations.{loop, GenerationsAre, no-loop, first-loop, generationsOrder, argumentCauses, generationsCauses, unless}
+use Rattle.generations.specs.Generations.{loop, GenerationsAre, no-loop, first-loop, argumentCauses, generationsCauses, unless}
+use Rattle.generations.specs.Inner.{generationsOrder}
 use Rattle.generations.specs.Generations.{OutcomeIs, not-asked, answered}
 
 -- ---- runs

@@ -20,18 +20,35 @@
 --                   the rows ws join x to itself; the closure of the set a does
 --   separatorAt p   the byte before a letter at the place p of the text
 --   loopText ls     the text (a|c)+ of the labels ls, here of 0 and 2
+--   generationsOrder
+--                   the causes of a refusal in the order in which they are looked for
+--   loopOutcome room ws
+--                   the loop of so many words, or 13 where there is less room
+--   Looped self m x work list list′ r
+--                   what the inner function promises that asks for the first loop of x over links whose label is in the set m: over any contents the same; for
+--                   every book and labels with a first loop, that loop, or 13 where the list is too short for it
 -- Assumes nothing: these are definitions.
 use mathlib.Core.Path.{_≡_}
 use mathlib.Core.List.{List, [], _∷_, _++_}
 use Prim.Native.Nat.{ℕ, zero, suc, _+_, _-_, _*_, _<_, _≤_}
 use lib.ListN.{length, getD}
-use lib.Dec.{leb, eqb}
+use lib.Dec.{leb, eqb, ltb}
 use Rattle.book.specs.Basics.{pick, bit, has}
 use Rattle.k2.specs.Bits.{digit, bitAt, onesBelow}
 use Rattle.k2.specs.PairSets.{Cells, closure}
 use Rattle.paths.specs.Grammar.{bar, open-group, close-group, plus-sign, letter-a}
 use Rattle.register.specs.Marks.{hasMark, withdrawnMark}
 use Rattle.arcs.specs.Arcs.{arcFrom, arcTo}
+use Rattle.book.specs.Causes.{Cause, bad-label, short-work, short-list, firstNumber}
+use Rattle.book.specs.Book.{Book}
+use Rattle.answers.specs.Answers.{counted, Contained}
+use Rattle.paths.specs.Chains.{asked, Step, stepWords}
+use Rattle.paths.specs.Questions.{chainWork}
+use Rattle.register.specs.declared.Register.{Register}
+use Rattle.register.specs.Representation.{Represents}
+use Rattle.generations.specs.Generations.{FirstLoop, Outcome, unless, listAfter, loop}
+use Rattle.generations.specs.declared.GenerationsAnswer.{GenerationsAnswer}
+use Rattle.generations.specs.Generating.{outcomeOf, generationsCounted}
 
 abbrev pub Contains : ℕ → List ℕ → Type 0
 Contains m ls = (l : ℕ) → digit m l ≡ bit (has eqb l ls)
@@ -115,3 +132,15 @@ lettersAfter c (l ∷ ls) = c ∷ (letter-a + l) ∷ lettersAfter bar ls
 
 unfoldable pub loopText : List ℕ → List ℕ
 loopText ls = lettersAfter open-group ls ++ (close-group ∷ plus-sign ∷ [])
+
+-- the order: 3, 12, 13
+unfoldable pub generationsOrder : List Cause
+generationsOrder = bad-label ∷ short-work ∷ short-list ∷ []
+
+abbrev pub loopOutcome : ℕ → List ℕ → Outcome
+loopOutcome room ws = unless (firstNumber ((short-list, ltb room (length ws)) ∷ [])) (loop ws)
+
+pub record Looped (self : Register) (m x work : ℕ) (list list′ : List ℕ) (r : GenerationsAnswer) : Type 0 where
+  pub contained : Contained (length list) (counted (generationsCounted r)) list list′ (generationsCounted r)
+  pub first : (b : Book) → Represents self b → chainWork (b .n) ≤ work → (ls : List ℕ) → Contains m ls → (ss : List Step) → FirstLoop (asked b) ls x ss
+      → (outcomeOf r list′ ≡ loopOutcome (length list) (stepWords ss)) × (list′ ≡ listAfter (outcomeOf r list′) list)

@@ -7,7 +7,8 @@ ghost use lib.ListN.{length, take};
 ghost use Rattle.book.specs.Causes.{maxLinks};
 ghost use Rattle.k2.specs.Bits.{digit};
 ghost use Rattle.paths.specs.Grammar.{open-group};
-ghost use Rattle.rows.specs.Rows.{labelled, places};
+ghost use Rattle.rows.specs.Rows.{places};
+ghost use Rattle.rows.specs.RowSets.{labelled};
 ghost use Rattle.generations.specs.Generations.{above};
 ghost use Rattle.generations.specs.Inner.{Contains, separatorAt, lettersAfter, loopText};
 

@@ -34,8 +34,8 @@ use Rattle.k2.specs.Bits.{digit}
 use Rattle.k2.specs.DigitLaws.{digit-pow, digit-none}
 use Rattle.k2.specs.PairSets.{Cells, setOf, union, transpose, diagonal}
 use Rattle.k2.specs.PairSetLaws.{set-past}
-use Rattle.rows.specs.Rows.{noPairs, labelled, crossedWords}
-use Rattle.links.specs.Links.{linkPair}
+use Rattle.rows.specs.RowSets.{noPairs, labelled, crossedWords}
+use Rattle.links.specs.Parts.{linkPair}
 use Rattle.rows.specs.RowLaws.{union-join, set-none}
 use Rattle.grid.specs.Grid.{firstRows, within}
 use Rattle.grid.specs.GridLaws.{within-in, within-row, within-column, within-same}

@@ -19,7 +19,8 @@ use Rattle.k2.specs.Bits.{digit, bitAt}
 use Rattle.k2.specs.BitLaws.{bit-set, bit-set-off}
 use Rattle.k2.specs.PairSets.{Cells}
 use Rattle.bits.specs.BitSets.{Gap}
-use Rattle.rows.specs.Rows.{flat, noPairs}
+use Rattle.rows.specs.Rows.{flat}
+use Rattle.rows.specs.RowSets.{noPairs}
 use Rattle.grid.specs.Grid.{rowOf, firstRows, first}
 use Rattle.grid.specs.GridLaws.{within-in, within-row, within-column}
 use Rattle.grid.specs.Steps.{cutRow, Spread}

@@ -26,7 +26,7 @@ use Rattle.book.specs.Basics.{pick}
 use Rattle.k2.specs.Bits.{digit}
 use Rattle.k2.specs.DigitLaws.{digit-none}
 use Rattle.k2.specs.PairSets.{Cells, union, transpose}
-use Rattle.rows.specs.Rows.{noPairs}
+use Rattle.rows.specs.RowSets.{noPairs}
 use Rattle.rows.specs.RowLaws.{union-none}
 use Rattle.bits.specs.BitSets.{Gap}
 use Rattle.grid.specs.Grid.{rowOf, firstRows, secondRows, within, first, second}

@@ -7,7 +7,7 @@ ghost use Prim.Native.Nat.{ℕ, _≤_};
 ghost use lib.ListN.{length};
 ghost use Rattle.k2.specs.Bits.{bitAt};
 ghost use Rattle.k2.specs.PairSets.{union, diagonal};
-ghost use Rattle.rows.specs.Rows.{noPairs, crossedWords};
+ghost use Rattle.rows.specs.RowSets.{noPairs, crossedWords};
 ghost use Rattle.grid.specs.Grid.{Space, within, first};
 ghost use Rattle.grid.specs.Steps.{onePair};
 

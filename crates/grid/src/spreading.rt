@@ -3,7 +3,7 @@ use crate::words::above;
 use crate::words::cut;
 use crate::words::lowest;
 ghost use mathlib.Core.Path.{_≡_};
-ghost use Prim.Native.Nat.{ℕ, _+_, _*_, _≤_, _<_};
+ghost use Prim.Native.Nat.{ℕ, _+_, _*_, _<_};
 ghost use lib.ListN.{length};
 ghost use Rattle.book.specs.Causes.{maxRecords};
 ghost use Rattle.k2.specs.Sizes.{rowsWords};

@@ -38,7 +38,8 @@ use Rattle.register.specs.Marks.{hasMark}
 use Rattle.register.specs.Calls.{answerNumber, Opens, Steps, Closes}
 use Rattle.register.specs.HistoryLaws.{number-answer}
 use Rattle.register.specs.Inner.{Shown}
-use Rattle.register.specs.Words.{stateWords, Keeps, Foreign, OfWords, Loads, Stores, Edits}
+use Rattle.register.specs.Words.{stateWords, Keeps, Foreign, OfWords, Edits}
+use Rattle.register.specs.Inner.{Loads, Stores}
 use Rattle.register.specs.MarkLaws.{represents-marked}
 use Rattle.register.specs.WordLaws.{keeps-long, keeps-same, load-done, edit-foreign, edit-stepped}
 use Rattle.register.specs.declared.Register.{Register}

@@ -18,7 +18,7 @@ use Rattle.book.specs.Basics.{pick}
 use Rattle.k2.specs.Bits.{bitsOf}
 use Rattle.k2.specs.PairSets.{Cells}
 use Rattle.k2.specs.Trees.{filled, quarters}
-use Rattle.k2.specs.Nodes.{quarterOf}
+use Rattle.k2.specs.Trees.{quarterOf}
 
 unfoldable pub fullLevels : ℕ → List Cells → List ℕ
 fullLevels zero qs = []

@@ -20,7 +20,7 @@ use lib.Pow.{pow-pos}
 use Rattle.k2.specs.Bits.{bitsOf}
 use Rattle.k2.specs.PairSets.{Cells}
 use Rattle.k2.specs.Trees.{quadrant, filled, quarters, keep, keepIf, levels, treeBits}
-use Rattle.k2.specs.Nodes.{quarterOf}
+use Rattle.k2.specs.Trees.{quarterOf}
 use Rattle.k2.specs.Heap.{fullLevels, full, fullSize, place, anyFour, fourOf, ifAny, compacted}
 use Rattle.k2.specs.NodeLaws.{map-at, half-lt, filled-lt, quarters-length, quarters-at, quadrant-cell, blank}
 

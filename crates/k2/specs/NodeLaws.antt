@@ -25,7 +25,8 @@ use lib.Pow.{pow-pos}
 use Rattle.k2.specs.Bits.{onesBelow, bitsOf}
 use Rattle.k2.specs.PairSets.{Cells}
 use Rattle.k2.specs.Trees.{quadrant, filled, quarters, keep, keepIf, levels, treeBits, childPlace}
-use Rattle.k2.specs.Nodes.{Node, root, child, quarterOf}
+use Rattle.k2.specs.Nodes.{Node, root, child}
+use Rattle.k2.specs.Trees.{quarterOf}
 use Rattle.k2.specs.BitLaws.{ones-cons, ones-append, ones-first}
 
 -- ---- squares that a test t of 0 or 1 keeps

@@ -17,7 +17,7 @@ use native.Mathlib.Nat.{mul-add-mod-self-right, div-eq-of-lt, mod-eq-of-lt}
 use native.Mathlib.Omega.{arith}
 use lib.Arith.{mod-mul}
 use lib.Pow.{pow-pos, field, mod-mod-pow}
-use Rattle.k2.specs.Nodes.{quarterOf}
+use Rattle.k2.specs.Trees.{quarterOf}
 use Rattle.k2.specs.Heap.{place, rowAt, columnAt}
 use Rattle.k2.specs.NodeLaws.{half-lt, quarter-lt}
 

@@ -19,7 +19,8 @@ use Rattle.book.specs.Basics.{pick}
 use Rattle.k2.specs.Bits.{bitAt, bitsOf}
 use Rattle.k2.specs.PairSets.{Cells, IsSet}
 use Rattle.k2.specs.Trees.{quadrant, filled, treeBits, treeWords, WellFormed, childPlace, height}
-use Rattle.k2.specs.Nodes.{Node, root, child, quarterOf}
+use Rattle.k2.specs.Nodes.{Node, root, child}
+use Rattle.k2.specs.Trees.{quarterOf}
 use Rattle.k2.specs.NodeLaws.{filled-lt, quarter-lt, quadrant-cell, empty-cell, node-bit}
 use Rattle.k2.specs.HeightLaws.{height-is}
 use Rattle.k2.specs.TreeLaws.{treeWords-bits}

@@ -14,7 +14,7 @@ use Rattle.book.specs.Basics.{pick}
 use Rattle.k2.specs.Bits.{bitAt}
 use Rattle.k2.specs.PairSets.{Cells}
 use Rattle.k2.specs.Trees.{height, treeWords, childPlace}
-use Rattle.k2.specs.Nodes.{quarterOf}
+use Rattle.k2.specs.Trees.{quarterOf}
 
 unfoldable pub cellAt : (ℕ → ℕ) → ℕ → ℕ → ℕ → ℕ → ℕ
 cellAt f zero b x y = 1

@@ -9,6 +9,7 @@
 --   WellFormed n ws the words are the tree of some set of pairs below n
 --   childPlace f p  where the children of the 1 at bit p begin: four times the count of ones in bits 0 to p
 --   treeUnit n      D: the words of a full tree, 4 × (s² − 1) / 3 bits divided by 64, rounded up
+--   quarterOf s x y the quarter of side s in which the row x and the column y lie
 -- Assumes nothing: these are definitions.
 use mathlib.Core.Path.{_≡_}
 use mathlib.Core.List.{List, [], _∷_, _++_, map}
@@ -69,3 +70,6 @@ childPlace f p = 4 * onesBelow f (p + 1)
 
 unfoldable pub treeUnit : ℕ → ℕ
 treeUnit n = (4 * (2 ^ height n * 2 ^ height n - 1) / 3 + 63) / 64
+
+abbrev pub quarterOf : ℕ → ℕ → ℕ → ℕ
+quarterOf s x y = x / s * 2 + y / s

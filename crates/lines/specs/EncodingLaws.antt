@@ -28,7 +28,8 @@ use Rattle.session.specs.declared.Shape.the-variants.{Empty, Record, Link, Size
 use Rattle.lines.specs.Typed.{Typed, nothing, framed, unknown, fitting, word, rest, skip, empty, isNumber, numberOf, isLabel, labelOf, text, maxLine}
 use Rattle.lines.specs.Typed.{hash, kindNamed, argued, requested, begun, typed}
 use Rattle.lines.specs.TypedLaws.{length-text}
-use Rattle.lines.specs.Encoding.{sent, maxBody, sentAll, TypedRun, no-lines, silent-line, request-line}
+use Rattle.lines.specs.Encoding.{sent}
+use Rattle.lines.specs.TypedRuns.{maxBody, sentAll, TypedRun, no-lines, silent-line, request-line}
 
 -- a number from its two bytes
 both : (n : ℕ) → n % 256 + 256 * (n / 256) ≡ n

@@ -5,5 +5,6 @@ pub mod ReadLaws
 pub mod TypedCases
 pub mod SaidLaws
 pub mod Encoding
+pub mod TypedRuns
 pub mod EncodingLaws
 pub mod LoopLaws

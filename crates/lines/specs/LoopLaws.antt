@@ -9,7 +9,8 @@ use Rattle.answers.specs.Written.{Wrote}
 use Rattle.session.specs.RunsLaws.{wrote-front}
 use Rattle.session.specs.Runs.{End, ended, unsent, spent, allSent, mostTurns}
 use Rattle.lines.specs.Typed.{typed}
-use Rattle.lines.specs.Encoding.{sent, sentAll, Sends, no-turns, last-line, not-sent, one-more, SentAll}
+use Rattle.lines.specs.Encoding.{sent, Sends, no-turns, last-line, not-sent, one-more, SentAll}
+use Rattle.lines.specs.TypedRuns.{sentAll}
 
 -- in all it writes the frames of its lines
 pub sends-all : {n : ℕ} {ls : List (List ℕ)} {o : List ℕ} {e : End} → Sends n ls o e → o ≡ sentAll ls

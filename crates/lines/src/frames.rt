@@ -5,7 +5,8 @@ ghost use lib.ListN.{length};
 ghost use Rattle.answers.specs.Written.{Wrote};
 ghost use Rattle.session.specs.Program.{twoBytes, frameOf};
 ghost use Rattle.lines.specs.Typed.{maxText};
-ghost use Rattle.lines.specs.Encoding.{maxBody, frameRoom};
+ghost use Rattle.lines.specs.Encoding.{frameRoom};
+ghost use Rattle.lines.specs.TypedRuns.{maxBody};
 
 // A frame whose body is two texts one after the other.
 pub fn put_frame(kind: u8, head: &[u8], text: &[u8], out: &mut [u8]) -> usize

@@ -23,7 +23,8 @@ use Rattle.book.specs.Book.{Link, Sheet, present, touched}
 use Rattle.book.specs.ListLaws.{in-front, in-none, in-at, at-in, map-in, in-map, rises-from}
 use Rattle.book.specs.Sheets.{Fit}
 use Rattle.book.specs.BookLaws.{touched-end, end-touched}
-use Rattle.links.specs.Links.{linkWord, linkOf, linkPair, Linked}
+use Rattle.links.specs.Links.{linkWord, Linked}
+use Rattle.links.specs.Parts.{linkOf, linkPair}
 use Rattle.links.specs.Ascending.{Seam}
 use Rattle.links.specs.Lookups.{PairsOf, ofLabel, LabelPart, hasAt, firstPlace, nextPlace}
 use Rattle.links.specs.AscendingLaws.{below, seam-list}

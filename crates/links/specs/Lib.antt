@@ -1,4 +1,5 @@
 pub mod Links
+pub mod Parts
 pub mod Ascending
 pub mod Totals
 pub mod Lookups

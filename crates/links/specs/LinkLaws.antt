@@ -13,7 +13,8 @@ use Rattle.book.specs.ListLaws.{map-in, in-map}
 use Rattle.book.specs.BookLaws.{touched-end, end-touched}
 use Rattle.book.specs.SetLaws.{eqb-test, sameLink-test, has-in, in-has}
 use Rattle.book.specs.Sheets.{Proper, Fit}
-use Rattle.links.specs.Links.{linkWord, linkOf, Linked}
+use Rattle.links.specs.Links.{linkWord, Linked}
+use Rattle.links.specs.Parts.{linkOf}
 
 pub linkOf-word : (k : Link) → k .from < 1024 → k .to < 1024 → linkOf (linkWord k) ≡ k
 linkOf-word k f t =

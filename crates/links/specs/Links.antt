@@ -1,33 +1,16 @@
 -- A sheet's links as ascending numbers, as the register keeps them and the questions read them.
 --   linkWord k      (label × 1,024 + from) × 1,024 + to: by label, then from, then to, so that the links of one label stand together
---   linkOf w        the link of a word
---   labelUnit       a link's word by this is its label
---   linkPair w      the pair word of a link's word, from × 1,024 + to
---   wordTotal l ws  how many of the words ws are of the label l
 --   Linked ws s     ws are the words of the links of the sheet s, ascending, each once
 -- Assumes nothing: these are definitions.
 use mathlib.Core.Path.{_≡_}
 use mathlib.Core.List.{List}
 use mathlib.Core.Bool.{true}
-use Prim.Native.Nat.{ℕ, _+_, _*_, _/_, _%_}
-use lib.Dec.{eqb}
-use Rattle.book.specs.Basics.{In, Rises, tally}
+use Prim.Native.Nat.{ℕ, _+_, _*_}
+use Rattle.book.specs.Basics.{In, Rises}
 use Rattle.book.specs.Book.{Link, Sheet, present}
 
 abbrev pub linkWord : Link → ℕ
 linkWord k = (k .label * 1024 + k .from) * 1024 + k .to
-
-abbrev pub linkOf : ℕ → Link
-linkOf w = record { from = w / 1024 % 1024; label = w / 1048576; to = w % 1024 }
-
-abbrev pub labelUnit : ℕ
-labelUnit = 1048576
-
-unfoldable pub linkPair : ℕ → ℕ
-linkPair w = w % labelUnit
-
-unfoldable pub wordTotal : ℕ → List ℕ → ℕ
-wordTotal l ws = tally (λ w. eqb (w / labelUnit) l) ws
 
 pub record Linked (ws : List ℕ) (s : Sheet) : Type 0 where
   pub ascending : Rises 0 ws

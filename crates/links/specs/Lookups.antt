@@ -19,7 +19,8 @@ use Rattle.book.specs.Basics.{pick, In, Rises}
 use Rattle.book.specs.Causes.{maxRecords}
 use Rattle.book.specs.Book.{Sheet, present}
 use Rattle.book.specs.Sheets.{Fit}
-use Rattle.links.specs.Links.{linkOf, linkPair, Linked}
+use Rattle.links.specs.Links.{Linked}
+use Rattle.links.specs.Parts.{linkOf, linkPair}
 
 pub record PairsOf (s : Sheet) (l : ℕ) (ps : List ℕ) : Type 0 where
   pub ascending : Rises 0 ps

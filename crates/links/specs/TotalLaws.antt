@@ -21,7 +21,7 @@ use Rattle.book.specs.Causes.{labels, maxLinks}
 use Rattle.book.specs.Sheets.{Distinct}
 use Rattle.book.specs.SetLaws.{eqb-test}
 use Rattle.book.specs.TotalLaws.{tally-le, tally-without}
-use Rattle.links.specs.Links.{labelUnit, wordTotal}
+use Rattle.links.specs.Parts.{labelUnit, wordTotal}
 use Rattle.links.specs.Ascending.{insert}
 use Rattle.links.specs.Totals.{TotalsOf, Raised, Lowered}
 use Rattle.links.specs.AscendingLaws.{rises-absent}

@@ -10,7 +10,7 @@ use lib.ListN.{getD}
 use lib.Dec.{eqb}
 use Rattle.book.specs.Basics.{bit}
 use Rattle.book.specs.Causes.{labels, maxLinks}
-use Rattle.links.specs.Links.{wordTotal}
+use Rattle.links.specs.Parts.{wordTotal}
 
 abbrev pub TotalsOf : List ℕ → List ℕ → Type 0
 TotalsOf ts ws = (l : ℕ) → l < labels → getD ts l 0 ≡ wordTotal l ws

@@ -15,7 +15,8 @@ pub use totals::raise_total;
 ghost use mathlib.Core.Path.{_≡_};
 ghost use Prim.Native.Nat.{_<_};
 ghost use Rattle.book.specs.Causes.{maxRecords, labels};
-ghost use Rattle.links.specs.Links.{linkWord, linkOf, linkPair};
+ghost use Rattle.links.specs.Links.{linkWord};
+ghost use Rattle.links.specs.Parts.{linkOf, linkPair};
 
 pub const FROM_UNIT: u32 = book::MAX_RECORDS as u32;
 

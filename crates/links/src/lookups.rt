@@ -7,7 +7,7 @@ ghost use mathlib.Core.List.{map};
 ghost use Prim.Native.Nat.{_≤_, _<_};
 ghost use lib.ListN.{length, take};
 ghost use Rattle.book.specs.Book.{touched as Book·touched};
-ghost use Rattle.links.specs.Links.{linkOf};
+ghost use Rattle.links.specs.Parts.{linkOf};
 ghost use Rattle.links.specs.Lookups.{LabelPart, hasAt, nextPlace};
 
 // The unit of a link's last part.

@@ -4,7 +4,7 @@ ghost use mathlib.Core.Path.{_≡_};
 ghost use Prim.Native.Nat.{_/_};
 ghost use lib.ListN.{length};
 ghost use Rattle.book.specs.Causes.{labels};
-ghost use Rattle.links.specs.Links.{labelUnit};
+ghost use Rattle.links.specs.Parts.{labelUnit};
 ghost use Rattle.links.specs.Totals.{Raised, Lowered};
 
 // The most that a total is.

@@ -1,4 +1,5 @@
 -- What the functions within the crate promise each other.
+--   ThirdAsked            what `third` asks: its numbers fit
 --   Records, Plan         what of a register the ties are judged by; how the passes go
 --   OpenNumber ws k       what `open_number` promises: 0 for the words of a register, else 16
 --   isWithdrawnIn ws k    whether a record is withdrawn, by its mark among the words
@@ -17,10 +18,11 @@
 use mathlib.Core.Path.{_≡_}
 use mathlib.Core.List.{List, [], _∷_, _++_}
 use mathlib.Core.Bool.{Bool, true, false, _||_}
-use Prim.Native.Nat.{ℕ, zero, suc, _*_, _≤_, _<_}
+use Prim.Native.Nat.{ℕ, zero, suc, _*_, _^_, _≤_, _<_}
 use lib.Dec.{leb, ltb, eqb}
 use lib.IntN.{ℤ}
 use lib.ListN.{length, drop}
+use lib.Signed.{mag}
 use Rattle.book.specs.Basics.{pick}
 use Rattle.book.specs.Causes.{no-record, withdrawn-record, bad-tie, short-work, short-list, not-open, number, firstNumber, maxRecords}
 use Rattle.answers.specs.Answers.{counted, Contained}
@@ -32,6 +34,13 @@ use Rattle.offsets.specs.declared.Tie.{Tie}
 use Rattle.offsets.specs.Answers.{OffsetsAnswer, Limits, CannotHold, Refused, toldOffsets, maxTies, outside, offsetsWork, OffsetsFor, offsetsCounted}
 use Rattle.offsets.specs.Thirds.{Starts}
 use Rattle.offsets.specs.Finds.{Told, Fits}
+
+pub record ThirdAsked (o a b : ℕ) (up down : ℤ) : Type 0 where
+  pub place : o ≤ 2 ^ 62
+  pub first : a < 2 ^ 16
+  pub second : b < 2 ^ 16
+  pub up-fits : mag up ≤ 2 ^ 31
+  pub down-fits : mag down ≤ 2 ^ 31
 
 -- what of a register the ties are judged by: the number with which its words were refused, its size, and its words, which have its marks
 pub record Records : Type 0 where

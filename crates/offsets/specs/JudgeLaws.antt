@@ -15,7 +15,8 @@ use lib.ListN.{length}
 use lib.Signed.{ltZ, _≤ℤ_}
 use borrow.Author.Tests.{leb-false, ltb-false}
 use Rattle.book.specs.Basics.{In, here, there}
-use Rattle.book.specs.Causes.{no-record, withdrawn-record, bad-tie, short-work, firstNumber, number, maxRecords, InOrder, none-left, same-cause, offsetsOrder}
+use Rattle.book.specs.Causes.{no-record, withdrawn-record, bad-tie, short-work, firstNumber, number, maxRecords}
+use Rattle.book.specs.CauseOrders.{InOrder, none-left, same-cause, offsetsOrder}
 use Rattle.book.specs.BookLaws.{first-none}
 use Rattle.book.specs.SetLaws.{or-neither}
 use Rattle.offsets.specs.declared.Tie.{Tie}

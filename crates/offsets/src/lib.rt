@@ -166,7 +166,7 @@ fn lower(was: bool, from: usize, to: usize, w: i64, d: &mut [i64]) -> bool
 
 // Both limits of a tie, for records that stand from place o on.
 fn third(was: bool, o: usize, a: usize, b: usize, up: i64, down: i64, d: &mut [i64]) -> bool
-    requires { ⌜ ((o ≤ 2 ^ 62) × ((a < 2 ^ 16) × (b < 2 ^ 16))) × ((mag up ≤ 2 ^ 31) × (mag down ≤ 2 ^ 31)) ⌝ }
+    requires { ⌜ inner.ThirdAsked o a b up down ⌝ }
     ensures { λ r. ⌜ (now (d .exit), r) ≡ spec.lower (o + b) (o + a) down (spec.lower (o + a) (o + b) up (now (d .entry), was)) ⌝ }
 {
     let x = o + a;

@@ -6,4 +6,5 @@ pub mod LiftLaws
 pub mod BlockLaws
 pub mod PackLaws
 pub mod LoadLaws
+pub mod CountLaws
 pub mod SquareLaws

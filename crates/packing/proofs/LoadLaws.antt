@@ -8,8 +8,6 @@
 --   reads-tree, inside-all
 --                  a whole tree is read, and its square is the set
 --   four-cells     the four cells of a square of side 2, put into rows
---   count-set, count-begun, count-in, child-count
---                  the counts of ones kept by block, and the child place found by them
 --   square-plain, square-turned
 --                  `square`: four bits as a number, read with either sense
 --   descend-child, descend-all, descend-gap
@@ -26,12 +24,10 @@ use native.Mathlib.Nat.{pow-suc, lt-of-le-of-lt, div-le-self}
 use native.Mathlib.Numerals.{add-one}
 use native.Mathlib.Decide.{decLt, ℕ-discrete}
 use native.Mathlib.Omega.{arith}
-use lib.Count.{ones, trailingZeros}
-use lib.ListN.{length, getD, set}
-use lib.Seq.{getD-set-same, getD-set-other}
+use lib.Count.{trailingZeros}
 use borrow.Author.Tests.{le-leb, lt-leb, lt-ltb, le-ltb}
-use Rattle.k2.specs.Bits.{digit, bitAt, bitsOf, onesBelow}
-use Rattle.k2.specs.BitLaws.{Bits, ones-part, ones-shl}
+use Rattle.k2.specs.Bits.{digit, bitAt, bitsOf}
+use Rattle.k2.specs.BitLaws.{Bits}
 use Rattle.k2.specs.PairSets.{Cells, IsSet, union, transpose}
 use Rattle.k2.specs.Trees.{quadrant, filled, treeBits, treeWords, height, childPlace}
 use Rattle.k2.specs.Nodes.{root, child, exchanged}
@@ -40,7 +36,8 @@ use Rattle.k2.specs.TreeLaws.{treeWords-bits, quadrant-transpose, filled-transp
 use Rattle.k2.specs.DigitLaws.{shifted, digit-add, digit-big}
 use Rattle.k2.specs.WordLaws.{digit-mod, shifted-in, shifted-out, trailing-set, trailing-clear}
 use Rattle.bits.specs.BitSets.{either, fourAt}
-use Rattle.rows.specs.Rows.{flat, noPairs}
+use Rattle.rows.specs.Rows.{flat}
+use Rattle.rows.specs.RowSets.{noPairs}
 use Rattle.packing.specs.Reading.{turnedBy, turned, inside, quartersTo, Reads}
 
 -- ---- squares of a set
@@ -308,40 +305,6 @@ module _ (x : Cells) (r c v : ℕ) (t : Cells) (cl : c + 2 ≤ 1024) (vl : v < 1
           → max (max (x (p / 1024) (p % 1024)) (upper p)) (lower p) ≡ max (x (p / 1024) (p % 1024)) (t (p / 1024) (p % 1024))
       hit p a b d e (yes k) = rw (upper-in p k d e, lower-off p (λ f g h. omega arith)) (omega arith)
       hit p a b d e (no k) = rw (lower-in p (omega (arith, k)) d e, upper-off p (λ f g h. k f)) (omega arith)
-
--- ---- counts and children
-pub count-set : (ws : List ℕ) (i n : ℕ) (f : ℕ → ℕ) → i < length ws
-    → ((k : ℕ) → k < i → getD ws k 0 ≡ f k) → n ≡ f i → (k : ℕ) → k < i + 1 → getD (set ws i n) k 0 ≡ f k
-count-set ws i n f l h e k g = go (ℕ-discrete k i)
-  where
-    go : Dec (k ≡ i) → getD (set ws i n) k 0 ≡ f k
-    go (yes s) = rw s (getD-set-same ws i n 0 l ∙ e)
-    go (no s) = getD-set-other ws i k n 0 s ∙ h k (omega (arith, s))
-
-module _ (ws : List ℕ) (i : ℕ) (f : ℕ → ℕ) where
-  -- a block begins at word i
-  pub count-begun : (n : ℕ) → i / 4 < length ws → i % 4 ≡ 0 → ((k : ℕ) → 4 * k < i → getD ws k 0 ≡ onesBelow f (k * 256)) → n ≡ onesBelow f (i * 64)
-      → (k : ℕ) → 4 * k < i + 1 → getD (set ws (i / 4) n) k 0 ≡ onesBelow f (k * 256)
-  count-begun n l z h e k g = go (ℕ-discrete k (i / 4))
-    where
-      go : Dec (k ≡ i / 4) → getD (set ws (i / 4) n) k 0 ≡ onesBelow f (k * 256)
-      go (yes s) =
-          let p : i * 64 ≡ k * 256 = omega arith in
-          ap (λ (j : ℕ). getD (set ws (i / 4) n) j 0) s ∙ getD-set-same ws (i / 4) n 0 l ∙ e ∙ ap (onesBelow f) p
-      go (no s) = getD-set-other ws (i / 4) k n 0 s ∙ h k (omega (arith, s))
-
-  -- or has begun
-  pub count-in : (i % 4 ≡ 0 → ⊥) → ((k : ℕ) → 4 * k < i → getD ws k 0 ≡ onesBelow f (k * 256)) → (k : ℕ) → 4 * k < i + 1 → getD ws k 0 ≡ onesBelow f (k * 256)
-  count-in z h k g = h k (omega (arith, z))
-
-pub child-count : (ws : List ℕ) (p m : ℕ) → m ≡ onesBelow (bitAt ws) (p / 64 * 64)
-    → m + ones ((getD ws (p / 64) 0 * 2 ^ (63 - p % 64)) % 2 ^ 64) ≡ onesBelow (bitAt ws) (p + 1)
-child-count ws p m e =
-    let j : p % 64 + 1 + (63 - p % 64) ≡ 64 = omega arith in
-    let s : ones ((getD ws (p / 64) 0 * 2 ^ (63 - p % 64)) % 2 ^ 64) ≡ ones (getD ws (p / 64) 0 % 2 ^ (p % 64 + 1)) =
-    rw j at (ones-shl (getD ws (p / 64) 0) (p % 64 + 1) (63 - p % 64)) in
-    let q : p / 64 * 64 + (p % 64 + 1) ≡ p + 1 = omega arith in
-    ap₂ (λ (a b : ℕ). a + b) e s ∙ sym (ones-part ws (p / 64) (p % 64 + 1) (omega arith)) ∙ ap (onesBelow (bitAt ws)) q
 
 -- ---- `square`
 -- four bits as a number, the second and the third exchanged

@@ -8,7 +8,7 @@ use native.Mathlib.Omega.{arith}
 use lib.ListN.{length, getD, set}
 use lib.Seq.{getD-set-same, getD-set-other}
 use Rattle.k2.specs.PairSets.{Cells, union}
-use Rattle.rows.specs.Rows.{noPairs}
+use Rattle.rows.specs.RowSets.{noPairs}
 use Rattle.rows.specs.RowLaws.{union-none, union-join}
 use Rattle.packing.specs.Reading.{inside, Reads, squareBit, squareRow, squareColumn, squaresTo, Fits, FitAll, ReadAll}
 
@@ -72,7 +72,13 @@ root-at : (j : ℕ) → j < 1 → getD {A = ℕ} (0 ∷ []) (0 + j) 0 ≡ 0
 root-at j g = let e : 0 + j ≡ 0 = omega arith in rw e refl
 
 pub root-fits : (h : ℕ) → 2 ^ h ≤ 1024 → FitAll h (0 ∷ []) 0 1
-root-fits h l j g = subst (Fits h) (sym (root-at j g)) (omega arith, omega arith, omega arith, omega arith, omega arith)
+root-fits h l j g = subst (Fits h) (sym (root-at j g)) (record {
+  bit-of-four = omega arith;
+  bit-most = omega arith;
+  rows-in = omega (arith, l);
+  columns-in = omega (arith, l);
+  column-even = omega arith;
+})
 
 pub root-reads : (s : ℕ) (ws : List ℕ) (h : ℕ) (t : Cells) → Reads s ws h 0 0 0 t → ReadAll s ws h (0 ∷ []) 0 1 t
 root-reads s ws h t r j g = subst (λ (w : ℕ). Reads s ws h (squareBit w) (squareRow w) (squareColumn w) t) (sym (root-at j g)) r

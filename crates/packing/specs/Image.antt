@@ -9,16 +9,19 @@
 --   Heaped b f      a bit of f below place b is 1 exactly if one of the four bits of its square is: f is a full tree whose cells begin at b
 --   Compacting f q g ws
 --                   of the first q groups of f, the g that are not all 0 are at the front of ws, which has the later groups in their places
+--   FillAsked, BlockAsked, EightAsked, PackAsked
+--                   what the functions ask: to put in the cells of rows, of one block of row r and column c, of eight from there on, to make the tree
 -- Assumes nothing: these are definitions.
 use mathlib.Core.Path.{_≡_}
 use mathlib.Core.List.{List}
-use Prim.Native.Nat.{ℕ, _+_, _-_, _*_, _/_, _%_, _≤_, _<_}
+use Prim.Native.Nat.{ℕ, _+_, _-_, _*_, _/_, _%_, _^_, _≤_, _<_}
 use lib.Dec.{leb, ltb, eqb}
-use lib.ListN.{getD}
+use lib.ListN.{length, getD}
 use Rattle.book.specs.Basics.{pick}
+use Rattle.k2.specs.Sizes.{rowsWords, mostTreeBits}
 use Rattle.k2.specs.Bits.{digit, bitAt, bitsOf}
 use Rattle.k2.specs.PairSets.{Cells}
-use Rattle.k2.specs.Heap.{anyFour, compacted, groups}
+use Rattle.k2.specs.Heap.{fullSize, anyFour, compacted, groups}
 
 abbrev pub Together : List ℕ → ℕ → ℕ → ℕ → ℕ → Type 0
 Together ws i step count w = (d k : ℕ) → k < count → digit w d ≡ 0 → digit (getD ws (i + step * k) 0) d ≡ 0
@@ -47,3 +50,26 @@ pub record Compacting (f : ℕ → ℕ) (q g : ℕ) (ws : List ℕ) : Type 0 whe
   pub count : g ≡ groups f q
   pub front : (k : ℕ) → k < 4 * g → bitAt ws k ≡ bitsOf (compacted f q) k
   pub rest : (k : ℕ) → 4 * q ≤ k → bitAt ws k ≡ f k
+
+-- what the functions ask
+pub record FillAsked (g base : ℕ) (rows heap : List ℕ) : Type 0 where
+  pub levels : g ≤ 7
+  pub rows-are : length rows ≡ rowsWords
+  pub base-most : base ≤ mostTreeBits
+  pub room : base / 64 + 4 ^ g < length heap
+
+pub record BlockAsked (rows : List ℕ) (g r c seen : ℕ) : Type 0 where
+  pub row : r < 2 ^ g
+  pub column : c < 128
+  pub seen-are : Together rows (r * 128 + c / 8) 16 8 seen
+
+pub record EightAsked (g r c : ℕ) : Type 0 where
+  pub row : r < 2 ^ g
+  pub column : c < 128
+  pub eights : c % 8 ≡ 0
+
+pub record PackAsked (h : ℕ) (rows heap : List ℕ) : Type 0 where
+  pub rows-are : length rows ≡ rowsWords
+  pub some-level : 1 ≤ h
+  pub few-levels : h ≤ 10
+  pub room-is : length heap ≡ (fullSize h 1 + 63) / 64 + 1

@@ -3,7 +3,7 @@ use mathlib.Core.Path.{_≡_, refl}
 use Prim.Native.Nat.{ℕ}
 use Rattle.k2.specs.PairSets.{Cells, IsSet, union, transpose}
 use Rattle.k2.specs.PairSetLaws.{transpose-set}
-use Rattle.rows.specs.Rows.{noPairs}
+use Rattle.rows.specs.RowSets.{noPairs}
 use Rattle.rows.specs.RowLaws.{transpose-union, transpose-none}
 use Rattle.packing.specs.declared.loading.Sense.{Sense}
 use Rattle.packing.specs.declared.loading.Sense.the-variants.{Plain, Inverted}

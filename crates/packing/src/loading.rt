@@ -13,7 +13,8 @@ ghost use Rattle.bits.specs.BitSets.{either};
 ghost use Rattle.rows.specs.Rows.{flat};
 ghost use Rattle.packing.specs.Senses.{sensed};
 ghost use Rattle.packing.specs.Reading.{turnedBy, turned, inside, WordsCounted, BlocksCounted, Counted, Reads, squareBit, squareRow, squareColumn};
-ghost use Rattle.packing.specs.Reading.{squaresTo, FitAll, ReadAll};
+ghost use Rattle.packing.specs.Reading.{SquareIn, squaresTo, FitAll, ReadAll, ChildAsked, ReadAsked, SquaresAsked};
+ghost use Rattle.packing.specs.Reading.{NextAsked, CellsAsked, LoadAsked, NextOne};
 
 // The most rows and columns. A square waits as one word: its bit, its row and its column, each times its unit.
 const SIDE: usize = book::MAX_RECORDS;
@@ -67,7 +68,7 @@ fn count(tree: &[u64], before: &mut [u32])
 
 // Where the children of the 1 at bit p begin: four times the count of ones in bits 0 to p. From the ones before its word:
 fn child_by_word(tree: &[u64], before: &[u32], p: usize) -> usize
-    requires { ⌜ (p / 64 < length (now tree)) × (length (now tree) ≤ mostCounts) × (length (now before) ≡ mostCounts) × WordsCounted (now tree) (now before) ⌝ }
+    requires { ⌜ ChildAsked mostCounts (now tree) (now before) p (WordsCounted (now tree) (now before)) ⌝ }
     ensures { λ r. ⌜ (r ≡ childPlace (bitAt (now (tree .entry))) p) × (r ≤ mostChildPlace) ⌝ }
 {
     let q = p / 64;
@@ -76,8 +77,7 @@ fn child_by_word(tree: &[u64], before: &[u32], p: usize) -> usize
 
 // From the ones before its block of four words:
 fn child_by_block(tree: &[u64], before: &[u32], p: usize) -> usize
-    requires { ⌜ (p / 64 < length (now tree)) × (length (now tree) ≤ mostTreeWords)
-        × (length (now before) ≡ mostCounts) × BlocksCounted (now tree) (now before) ⌝ }
+    requires { ⌜ ChildAsked mostTreeWords (now tree) (now before) p (BlocksCounted (now tree) (now before)) ⌝ }
     ensures { λ r. ⌜ (r ≡ childPlace (bitAt (now (tree .entry))) p) × (r ≤ mostChildPlace) ⌝ }
 {
     let q = p / 64;
@@ -92,7 +92,7 @@ fn child_by_block(tree: &[u64], before: &[u32], p: usize) -> usize
 
 // From what was counted.
 fn child(tree: &[u64], before: &[u32], p: usize) -> usize
-    requires { ⌜ (p / 64 < length (now tree)) × (length (now tree) ≤ mostTreeWords) × (length (now before) ≡ mostCounts) × Counted (now tree) (now before) ⌝ }
+    requires { ⌜ ChildAsked mostTreeWords (now tree) (now before) p (Counted (now tree) (now before)) ⌝ }
     ensures { λ r. ⌜ (r ≡ childPlace (bitAt (now (tree .entry))) p) × (r ≤ mostChildPlace) ⌝ }
 {
     if COUNTS < tree.len() {
@@ -135,7 +135,7 @@ fn or_two(words: &mut [u64], p: usize, v: u64)
 
 // The four cells of a square of side 2 at row x and column y put into rows.
 fn put_cells(rows: &mut [u64], x: usize, y: usize, v: u64)
-    requires { ⌜ (x + 2 ≤ maxRecords) × (y + 2 ≤ maxRecords) × (y % 2 ≡ 0) × (v < 16) × (length (now rows) ≡ rowsWords) ⌝ }
+    requires { ⌜ CellsAsked x y v (now rows) ⌝ }
     ensures { λ _. ⌜ ((a t : Cells) → bitAt (now (rows .entry)) ≡ flat a → ((q : ℕ) → q < 4 → digit v q ≡ t (x + q / 2) (y + q % 2))
         → bitAt (now (rows .exit)) ≡ flat (union a (inside 1 x y t))) ⌝ }
 {
@@ -154,7 +154,7 @@ fn half(h: usize) -> usize
 // The first place from q on where v has a one, or 4.
 fn next_one(v: u64, q: usize) -> usize
     requires { ⌜ (v < 16) × (q ≤ 4) ⌝ }
-    ensures { λ r. ⌜ (q ≤ r) × (r ≤ 4) × ((j : ℕ) → q ≤ j → j < r → digit v j ≡ 0) × (r < 4 → digit v r ≡ 1) ⌝ }
+    ensures { λ r. ⌜ NextOne v q r ⌝ }
 {
     q + u64::trailing_zeros((v + 16) >> q) as usize
 }
@@ -191,11 +191,7 @@ fn children(
     next: &mut [usize],
     m: usize,
 ) -> usize
-    requires { ⌜ (2 ≤ h) × (h ≤ 10) × (at .bit % 4 ≡ 0) × (at .bit ≤ mostChildPlace)
-        × (at .row + 2 ^ h ≤ maxRecords) × (at .column + 2 ^ h ≤ maxRecords) × (at .column % 2 ≡ 0)
-        × (sense ≤ 1)
-        × (length (now tree) ≤ mostTreeWords) × (length (now before) ≡ mostCounts) × Counted (now tree) (now before)
-        × (m + 4 ≤ length (now next)) × FitAll (h - 1) (now next) 0 m ⌝ }
+    requires { ⌜ ReadAsked 2 h sense (now tree) (now before) × SquareIn h (at .bit) (at .row) (at .column) × NextAsked (h - 1) (now next) m ⌝ }
     ensures { λ r. ⌜ (r ≤ m + 4) × FitAll (h - 1) (now (next .exit)) 0 r
         × ((t : Cells) → Reads sense (now (tree .entry)) h (at .bit) (at .row) (at .column) t
         → ReadAll sense (now (tree .entry)) (h - 1) (now (next .entry)) 0 m t
@@ -228,8 +224,7 @@ fn spread(
     sense: usize,
     next: &mut [usize],
 ) -> usize
-    requires { ⌜ (2 ≤ h) × (h ≤ 10) × (sense ≤ 1) × (length (now tree) ≤ mostTreeWords) × (length (now before) ≡ mostCounts) × Counted (now tree) (now before)
-        × (part .from + part .count ≤ length (now list)) × (part .count ≤ 16) × (length (now next) ≡ 64) × FitAll h (now list) (part .from) (part .count) ⌝ }
+    requires { ⌜ ReadAsked 2 h sense (now tree) (now before) × SquaresAsked h (now list) (part .from) (part .count) × (length (now next) ≡ 64) ⌝ }
     ensures { λ r. ⌜ (r ≤ 64) × FitAll (h - 1) (now (next .exit)) 0 r
         × ((t : Cells) → ReadAll sense (now (tree .entry)) h (now (list .entry)) (part .from) (part .count) t
         → ReadAll sense (now (tree .entry)) (h - 1) (now (next .exit)) 0 r t
@@ -254,8 +249,7 @@ fn spread(
 
 // The cells of some squares of side 2 of the list put into rows.
 fn leaves(tree: &[u64], list: &[usize], part: Part, sense: usize, rows: &mut [u64])
-    requires { ⌜ (part .from + part .count ≤ length (now list)) × (part .count ≤ 16) × (sense ≤ 1)
-        × (length (now rows) ≡ rowsWords) × FitAll 1 (now list) (part .from) (part .count) ⌝ }
+    requires { ⌜ SquaresAsked 1 (now list) (part .from) (part .count) × (sense ≤ 1) × (length (now rows) ≡ rowsWords) ⌝ }
     ensures { λ _. ⌜ ((a t : Cells) → bitAt (now (rows .entry)) ≡ flat a → ReadAll sense (now (tree .entry)) 1 (now (list .entry)) (part .from) (part .count) t
         → bitAt (now (rows .exit)) ≡ flat (union a (squaresTo (part .count) 1 (now (list .entry)) (part .from) t))) ⌝ }
 {
@@ -292,9 +286,7 @@ fn descend(
     sense: usize,
     rows: &mut [u64],
 )
-    requires { ⌜ (1 ≤ h) × (h ≤ 10) × (sense ≤ 1) × (length (now tree) ≤ mostTreeWords) × (length (now before) ≡ mostCounts) × Counted (now tree) (now before)
-        × (part .from + part .count ≤ length (now list)) × (part .count ≤ 16)
-        × (length (now rows) ≡ rowsWords) × FitAll h (now list) (part .from) (part .count) ⌝ }
+    requires { ⌜ ReadAsked 1 h sense (now tree) (now before) × SquaresAsked h (now list) (part .from) (part .count) × (length (now rows) ≡ rowsWords) ⌝ }
     ensures { λ _. ⌜ ((a t : Cells) → bitAt (now (rows .entry)) ≡ flat a → ReadAll sense (now (tree .entry)) h (now (list .entry)) (part .from) (part .count) t
         → bitAt (now (rows .exit)) ≡ flat (union a (squaresTo (part .count) h (now (list .entry)) (part .from) t))) ⌝ }
 {
@@ -321,7 +313,7 @@ pub enum Sense {
 
 // The pairs of a tree put into rows; with sense 1 each pair exchanged.
 fn load_by(tree: &[u64], n: usize, sense: usize, rows: &mut [u64])
-    requires { ⌜ (n ≤ maxRecords) × (length (now tree) ≤ mostTreeWords) × (sense ≤ 1) × (length (now rows) ≡ rowsWords) ⌝ }
+    requires { ⌜ LoadAsked n sense (now tree) (now rows) ⌝ }
     ensures { λ _. ⌜ ((a x : Cells) → IsSet n a → now (tree .entry) ≡ treeWords n a → bitAt (now (rows .entry)) ≡ flat x
         → bitAt (now (rows .exit)) ≡ flat (union x (turnedBy sense a))) ⌝ }
 {

@@ -4,15 +4,16 @@ ghost use mathlib.Core.Bool.{true};
 ghost use Prim.Native.Nat.{ℕ, _+_, _*_, _-_, _/_, _%_, _^_, _<_, _≤_, min, max};
 ghost use lib.ListN.{length, take, getD};
 ghost use Rattle.book.specs.Causes.{maxRecords};
-ghost use Rattle.k2.specs.Sizes.{rowsWords, mostTreeBits};
+ghost use Rattle.k2.specs.Sizes.{rowsWords};
 ghost use Rattle.k2.specs.Bits.{digit, bitAt, wordsOf};
 ghost use Rattle.k2.specs.DigitLaws.{shifted};
 ghost use Rattle.k2.specs.PairSets.{Cells, IsSet};
 ghost use Rattle.k2.specs.Trees.{treeBits, treeUnit, treeWords};
-ghost use Rattle.k2.specs.Heap.{fullSize, place, rowAt, columnAt, cells, anyFour, compacted};
+ghost use Rattle.k2.specs.Heap.{place, rowAt, columnAt, cells, anyFour, compacted};
 ghost use Rattle.bits.specs.BitSets.{none, either};
 ghost use Rattle.rows.specs.Rows.{flat};
 ghost use Rattle.packing.specs.Image.{Together, raised, above, setFour, blocksTo, swapPlace, Heaped, Compacting};
+ghost use Rattle.packing.specs.Image.{FillAsked, BlockAsked, EightAsked, PackAsked};
 
 // The place of a row and a column among the cells of a square of side 2 ^ h.
 fn morton_place(h: usize, x: usize, y: usize) -> usize
@@ -87,8 +88,7 @@ fn or_word(words: &mut [u64], p: usize, v: u64)
 
 // The cells of the block of 8 x 8 in row r and column c of blocks, put in from bit base on; `seen` are the bits that its rows have.
 fn fill_block(rows: &[u64], seen: u64, r: usize, c: usize, g: usize, base: usize, heap: &mut [u64])
-    requires { ⌜ (g ≤ 7) × (r < 2 ^ g) × (c < 128) × (length (now rows) ≡ rowsWords)
-        × (base ≤ mostTreeBits) × (base / 64 + 4 ^ g < length (now heap)) × Together (now rows) (r * 128 + c / 8) 16 8 seen ⌝ }
+    requires { ⌜ FillAsked g base (now rows) (now heap) × BlockAsked (now rows) g r c seen ⌝ }
     ensures { λ _. ⌜ ((a : Cells) → IsSet (2 ^ (g + 3)) a → bitAt (now (rows .entry)) ≡ flat a
         → bitAt (now (heap .entry)) ≡ raised base (cells (g + 3) (blocksTo (r * 128 + c) a))
         → bitAt (now (heap .exit)) ≡ raised base (cells (g + 3) (blocksTo (r * 128 + c + 1) a))) ⌝ }
@@ -105,8 +105,7 @@ fn fill_block(rows: &[u64], seen: u64, r: usize, c: usize, g: usize, base: usize
 
 // The cells of eight blocks from column c on, a multiple of 8; if all are empty they are passed at once.
 fn fill_eight(rows: &[u64], r: usize, c: usize, g: usize, base: usize, heap: &mut [u64])
-    requires { ⌜ (g ≤ 7) × (r < 2 ^ g) × (c < 128) × (c % 8 ≡ 0) × (length (now rows) ≡ rowsWords)
-        × (base ≤ mostTreeBits) × (base / 64 + 4 ^ g < length (now heap)) ⌝ }
+    requires { ⌜ FillAsked g base (now rows) (now heap) × EightAsked g r c ⌝ }
     ensures { λ _. ⌜ ((a : Cells) → IsSet (2 ^ (g + 3)) a → bitAt (now (rows .entry)) ≡ flat a
         → bitAt (now (heap .entry)) ≡ raised base (cells (g + 3) (blocksTo (r * 128 + c) a))
         → bitAt (now (heap .exit)) ≡ raised base (cells (g + 3) (blocksTo (r * 128 + c + 8) a))) ⌝ }
@@ -123,8 +122,7 @@ fn fill_eight(rows: &[u64], r: usize, c: usize, g: usize, base: usize, heap: &mu
 
 // The cells of rows put in from bit base on, by blocks of 8 x 8, 2 ^ g of them to a side.
 fn fill(rows: &[u64], g: usize, base: usize, heap: &mut [u64])
-    requires { ⌜ (g ≤ 7) × (length (now rows) ≡ rowsWords)
-        × (base ≤ mostTreeBits) × (base / 64 + 4 ^ g < length (now heap)) ⌝ }
+    requires { ⌜ FillAsked g base (now rows) (now heap) ⌝ }
     ensures { λ _. ⌜ ((a : Cells) → IsSet (2 ^ (g + 3)) a → bitAt (now (rows .entry)) ≡ flat a → bitAt (now (heap .entry)) ≡ none
         → bitAt (now (heap .exit)) ≡ raised base (cells (g + 3) a)) ⌝ }
 {
@@ -281,7 +279,7 @@ fn block_levels(h: usize) -> usize
 
 // The tree of rows, made in place; how many words it has.
 fn pack_part(rows: &[u64], h: usize, heap: &mut [u64]) -> usize
-    requires { ⌜ (length (now rows) ≡ rowsWords) × (1 ≤ h) × (h ≤ 10) × (length (now heap) ≡ (fullSize h 1 + 63) / 64 + 1) ⌝ }
+    requires { ⌜ PackAsked h (now rows) (now heap) ⌝ }
     ensures { λ r. ⌜ (r ≤ length (now (heap .entry))) × ((a : Cells) → IsSet (2 ^ h) a → bitAt (now (rows .entry)) ≡ flat a
         → take r (now (heap .exit)) ≡ wordsOf (treeBits h a)) ⌝ }
 {

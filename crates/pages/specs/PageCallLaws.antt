@@ -17,7 +17,8 @@ use borrow.Author.Tests.{lt-ltb, le-ltb}
 use lib.Dec.{ltb}
 use lib.ListN.{length}
 use Rattle.book.specs.Basics.{pick}
-use Rattle.book.specs.Causes.{short-work, short-list, questionOrder, number, firstNumber, InOrder, none-left, same-cause, passed-over}
+use Rattle.book.specs.Causes.{short-work, short-list, number, firstNumber}
+use Rattle.book.specs.CauseOrders.{questionOrder, InOrder, none-left, same-cause, passed-over}
 use Rattle.book.specs.Book.{Book}
 use Rattle.k2.specs.Trees.{treeUnit}
 use Rattle.paths.specs.Expressions.{Expr}

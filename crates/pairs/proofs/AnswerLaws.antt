@@ -15,7 +15,8 @@ use Rattle.paths.specs.Chains.{asked}
 use Rattle.paths.specs.Relations.{cells, pairs}
 use Rattle.paths.specs.RelationLaws.{cells-set}
 use Rattle.paths.specs.PairLaws.{fit-inside}
-use Rattle.rows.specs.Rows.{flat, pairsIn}
+use Rattle.rows.specs.Rows.{flat}
+use Rattle.rows.specs.RowSets.{pairsIn}
 use Rattle.rows.specs.RowLaws.{pairs-in, length-places}
 use Rattle.query.specs.Asking.{maxPairs}
 use Rattle.query.specs.Evaluation.{Lettered}

@@ -26,7 +26,7 @@ use Rattle.k2.specs.Trees.{treeUnit, treeWords}
 use Rattle.paths.specs.Expressions.{Expr}
 use Rattle.paths.specs.Chains.{Graph, asked}
 use Rattle.paths.specs.Relations.{crossedBy, zeroSteps}
-use Rattle.rows.specs.Rows.{noPairs, crossedWords}
+use Rattle.rows.specs.RowSets.{noPairs, crossedWords}
 use Rattle.rows.specs.RowLaws.{none-set, none-tree, union-none}
 use Rattle.packing.specs.declared.loading.Sense.the-variants.{Plain}
 use Rattle.reader.specs.declared.items.Item.{Item}

@@ -24,7 +24,7 @@ use Rattle.k2.specs.Trees.{treeWords}
 use Rattle.paths.specs.Expressions.{Expr}
 use Rattle.paths.specs.Chains.{Graph}
 use Rattle.paths.specs.Relations.{crossedBy, zeroSteps}
-use Rattle.rows.specs.Rows.{noPairs}
+use Rattle.rows.specs.RowSets.{noPairs}
 use Rattle.rows.specs.RowLaws.{union-none}
 use Rattle.reader.specs.declared.items.Item.{Item}
 use Rattle.reader.specs.declared.items.Item.the-variants.{Letters, Inverse, Star, Plus, Optional, Alternative, Sequence}

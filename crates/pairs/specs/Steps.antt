@@ -26,7 +26,8 @@ use Rattle.reader.specs.declared.items.Item.{Item}
 use Rattle.reader.specs.Letters.{lettersIn}
 use Rattle.reader.specs.Code.{itemOf, does}
 use Rattle.reader.specs.Running.{operands}
-use Rattle.rows.specs.Rows.{flat, crossedWords}
+use Rattle.rows.specs.Rows.{flat}
+use Rattle.rows.specs.RowSets.{crossedWords}
 use Rattle.query.specs.Evaluation.{relations, Coded, Lettered}
 use Rattle.tree.specs.Inner.{termSet}
 use Rattle.pairs.specs.declared.Stack.{Stack}

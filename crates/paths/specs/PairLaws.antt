@@ -24,8 +24,9 @@ use lib.Seq.{take-all}
 use lib.Dec.{ltb}
 use borrow.Author.Tests.{ltb-true, lt-ltb}
 use Rattle.book.specs.Basics.{In, here, there, Rises, rises}
-use Rattle.book.specs.Causes.{no-expression, too-many-bytes, too-large, short-work, short-list, number, Caused, firstNumber, questionOrder, InOrder, none-left}
-use Rattle.book.specs.Causes.{same-cause, passed-over}
+use Rattle.book.specs.Causes.{no-expression, too-many-bytes, too-large, short-work, short-list, number, Caused, firstNumber}
+use Rattle.book.specs.CauseOrders.{questionOrder, InOrder, none-left}
+use Rattle.book.specs.CauseOrders.{same-cause, passed-over}
 use Rattle.book.specs.Book.{Book, isWithdrawn, Call, fresh, after}
 use Rattle.book.specs.ListLaws.{in-none, rises-least, rises-same}
 use Rattle.book.specs.SetLaws.{and-both}

@@ -38,8 +38,8 @@ use Rattle.register.specs.Marks.{withdrawnMark, hasMark}
 use Rattle.register.specs.Reads.{ReadOf}
 use Rattle.register.specs.declared.Register.{Register}
 use Rattle.register.specs.declared.Links.{Links}
-use Rattle.rows.specs.Rows.{labelled, crossedWords}
-use Rattle.links.specs.Links.{linkPair}
+use Rattle.rows.specs.RowSets.{labelled, crossedWords}
+use Rattle.links.specs.Parts.{linkPair}
 use Rattle.query.specs.Evaluation.{usedBelow, Lettered}
 
 -- ---- the words of a set of labels

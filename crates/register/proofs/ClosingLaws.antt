@@ -38,7 +38,8 @@ use Rattle.book.specs.SetLaws.{eqb-test, sameLink-test, has-map, map-has}
 use Rattle.book.specs.RankLaws.{rank-less, rank-le, rank-same, rank-passed, rank-failed}
 use Rattle.book.specs.CloseLaws.{link-used, closed-fit, closed-locked, closed-total}
 use Rattle.book.specs.GivenLaws.{length-numbers, numbers-same}
-use Rattle.links.specs.Links.{linkWord, linkOf, labelUnit, wordTotal, Linked}
+use Rattle.links.specs.Links.{linkWord, Linked}
+use Rattle.links.specs.Parts.{linkOf, labelUnit, wordTotal}
 use Rattle.links.specs.LinkLaws.{word-link}
 use Rattle.register.specs.Marks.{freeMark, lockMark, withdrawnMark, markOf, Marked}
 use Rattle.register.specs.MarkLaws.{shows-locked, shows-withdrawn, mark-by}

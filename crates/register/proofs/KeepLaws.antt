@@ -28,7 +28,8 @@ use Rattle.register.specs.Counters.{Ranged, InRange}
 use Rattle.register.specs.Representation.{Represents}
 use Rattle.register.specs.Marks.{freeMark, withdrawnMark, Marked}
 use Rattle.register.specs.Inner.{AsLong, KeepsOne, Tested}
-use Rattle.register.specs.Words.{stateWords, linksAt, ringAt, marksAt, totalsAt, numbersOf, stateOf, Keeps, OfWords, Loads, Stores}
+use Rattle.register.specs.Words.{stateWords, linksAt, ringAt, marksAt, totalsAt, numbersOf, stateOf, Keeps, OfWords}
+use Rattle.register.specs.Inner.{Loads, Stores}
 use Rattle.register.specs.WordLaws.{of-foreign, part-long, formed-keeps, keeps-formed}
 use Rattle.register.specs.declared.Register.{Register}
 use Rattle.register.specs.declared.Answer.the-variants.{Done, Refused}

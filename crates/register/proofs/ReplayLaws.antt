@@ -29,8 +29,10 @@ use Rattle.book.specs.Book.{Book, add, remove, lock, unlock, withdraw, reinstat
 use Rattle.book.specs.Sheets.{Sound}
 use Rattle.register.specs.History.{addKind, removeKind, lockKind, unlockKind, undoKind, withdrawKind, reinstateKind, Entry, is-call, no-call, kindCall}
 use Rattle.register.specs.History.{wordCall}
-use Rattle.register.specs.History.{entryNumber, entryNext, entryCalls, wordAnswers, callsOf, isClose, closings, roomMost, EntryCloses, EntrySteps, laid}
-use Rattle.register.specs.History.{replayNumber, Replays}
+use Rattle.register.specs.History.{entryNumber, entryNext, entryCalls, wordAnswers, callsOf, isClose, closings, laid}
+use Rattle.register.specs.Replaying.{roomMost, EntryCloses, EntrySteps}
+use Rattle.register.specs.History.{replayNumber}
+use Rattle.register.specs.Replaying.{Replays}
 use Rattle.register.specs.LaidLaws.{givens-append, length-givens, givens-short, laid-past, laid-append}
 use Rattle.register.specs.Representation.{Represents}
 use Rattle.register.specs.Calls.{callOf, answerOf, Steps, Closes}

@@ -27,7 +27,8 @@ use Rattle.book.specs.SetLaws.{without-absent}
 use Rattle.book.specs.Sheets.{Proper, Fit}
 use Rattle.book.specs.BookLaws.{first-none, first-proper, edited-fit, fit-bare}
 use Rattle.book.specs.TotalLaws.{total-add, total-remove}
-use Rattle.links.specs.Links.{linkWord, linkOf, labelUnit, Linked}
+use Rattle.links.specs.Links.{linkWord, Linked}
+use Rattle.links.specs.Parts.{linkOf, labelUnit}
 use Rattle.links.specs.Ascending.{insert}
 use Rattle.register.specs.Marks.{freeMark, lockMark, withdrawnMark, markOf, hasMark}
 use Rattle.register.specs.Packed.{Packed, kindUnit, heldWord, takeBackKind, takeBack, Shows}

@@ -37,7 +37,8 @@ use Rattle.book.specs.Book.{undone, freshAnswer, fresh, answer}
 use Rattle.book.specs.Book.{next, touched}
 use Rattle.book.specs.Sheets.{Proper}
 use Rattle.book.specs.BookLaws.{caused-positive, first-proper}
-use Rattle.links.specs.Links.{linkWord, linkOf}
+use Rattle.links.specs.Links.{linkWord}
+use Rattle.links.specs.Parts.{linkOf}
 use Rattle.links.specs.Ascending.{Seam, standsAt}
 use Rattle.links.specs.AscendingLaws.{seam-has}
 use Rattle.register.specs.Marks.{freeMark, lockMark, withdrawnMark, Marked}

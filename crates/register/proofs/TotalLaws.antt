@@ -13,7 +13,7 @@ use lib.ListN.{getD}
 use Rattle.book.specs.Causes.{bad-label, number, labels}
 use Rattle.book.specs.Book.{Sheet, Book, total}
 use Rattle.book.specs.TotalLaws.{total-told, total-refused}
-use Rattle.links.specs.Links.{wordTotal}
+use Rattle.links.specs.Parts.{wordTotal}
 use Rattle.register.specs.Packed.{Packed, Shows}
 use Rattle.register.specs.Counters.{InRange}
 use Rattle.register.specs.Questions.{Totals}

@@ -19,14 +19,15 @@ use lib.Dec.{eqb}
 use lib.ListN.{length, take, drop, getD, set, drop-of-length-le}
 use lib.Seq.{getD-set-other, take-suc-set, drop-cons, take-all, take-at, set-split, length-take-le}
 use borrow.Author.Tests.{eqb-true, eq-eqb}
-use Rattle.book.specs.Basics.{pick, bit, In, here, there, has, without, tally}
+use Rattle.book.specs.Basics.{bit, In, here, there, has, without, tally}
 use Rattle.book.specs.Causes.{maxRecords}
 use Rattle.book.specs.Book.{Link, sameLink, Sheet, Book, present, total}
 use Rattle.book.specs.ListLaws.{in-none, in-front}
 use Rattle.book.specs.SetLaws.{eqb-test, sameLink-test, and-both, has-in, in-has, has-without, distinct-without}
 use Rattle.book.specs.Sheets.{Distinct}
 use Rattle.book.specs.TotalLaws.{tally-without}
-use Rattle.links.specs.Links.{linkWord, linkOf, labelUnit, wordTotal, Linked}
+use Rattle.links.specs.Links.{linkWord, Linked}
+use Rattle.links.specs.Parts.{linkOf, labelUnit, wordTotal}
 use Rattle.links.specs.Totals.{Lowered, TotalsOf}
 use Rattle.links.specs.LinkLaws.{word-link}
 use Rattle.register.specs.Marks.{freeMark, markOf}
@@ -238,7 +239,9 @@ without-represents {self} {b} x {r} l c h = record {
   where
     shown : Shows (b .n) (packedOf r) (withoutLinks x (b .sheet))
     shown = record {
-      links = subst (λ (k : List ℕ). Linked k (withoutLinks x (b .sheet))) (sym (c .kept .words)) (linked-without x (small h x) (h .sheet .fit) _ (h .sheet .links));
+      links =
+          subst (λ (k : List ℕ). Linked k (withoutLinks x (b .sheet))) (sym (c .kept .words))
+          (linked-without x (small h x) (h .sheet .fit) _ (h .sheet .links));
       count = ap length (c .kept .words) ∙ left-count h x;
       totals = λ j. ap (wordTotal j) (c .kept .words) ∙ left-total h x j;
       marks = λ y. ap (λ (m : List ℕ). getD m y freeMark) (c .marks) ∙ h .sheet .marks y ∙ marks-same x (b .sheet) y;

@@ -8,7 +8,7 @@ use mathlib.Core.List.{List}
 use mathlib.Core.Bool.{Bool}
 use Prim.Native.Nat.{ℕ, _≤_}
 use lib.ListN.{length, take}
-use Rattle.links.specs.Links.{linkOf}
+use Rattle.links.specs.Parts.{linkOf}
 use Rattle.links.specs.Totals.{TotalsOf}
 use Rattle.register.specs.Parting.{filter, apart}
 

@@ -15,8 +15,9 @@ use Prim.Native.Nat.{ℕ, _≤_, _<_}
 use lib.ListN.{length, getD}
 use Rattle.book.specs.Causes.{maxRecords}
 use Rattle.book.specs.Book.{rank, renamedLink}
-use Rattle.links.specs.Links.{linkWord, linkOf}
-use Rattle.register.specs.History.{roomMost}
+use Rattle.links.specs.Links.{linkWord}
+use Rattle.links.specs.Parts.{linkOf}
+use Rattle.register.specs.Replaying.{roomMost}
 use Rattle.register.specs.Marks.{freeMark, lockMark, withdrawnMark, hasMark}
 
 abbrev pub inUse : List ℕ → ℕ → Bool

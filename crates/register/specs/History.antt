@@ -9,12 +9,6 @@
 --   kindCall, wordCall    the entry that a kind and arguments, or a word of 64 bits, stand for
 --   entryNumber b e       the number told to an entry: the book's answer to a call; 15, unknown kind, for no call, of which the book is not asked
 --   entryNext b e         the book after an entry
---   roomMost room         of a list lent to a closing up of a history, how many words are used: no more than a register has records
---   EntryCloses self k l out
---                         what is promised of a closing up with the first k words of the list l
---   EntrySteps self e l out
---                         what is promised of an entry, with a list l for a closing up: of a call, what `Steps` and `Closes` say; of no call, that it is
---                         refused and changes nothing; of any but a closing up, that the list is as it was
 --   wordAnswers           the number told to each word
 --   entryCalls, callsOf   the calls among entries, and among words, in their order
 --   isCall e              whether an entry is a call
@@ -25,7 +19,6 @@
 --   parts k l             k lists of 1,024 words each, one behind the other in the list l
 --   replayNumber          the answer to replaying a list of words: 1 for n outside 1 to 1,024; 12 for a list shorter than the answers, or fewer than 1,024
 --                         words of numbers for each closing up among the calls
---   Replays               what `replay` promises
 -- Assumes nothing: these are definitions.
 use mathlib.Core.Path.{_≡_}
 use mathlib.Core.List.{List, [], _∷_, _++_}
@@ -35,9 +28,8 @@ use lib.ListN.{length, take, drop}
 use lib.Dec.{eqb, ltb}
 use Rattle.book.specs.Basics.{pick, tally, over}
 use Rattle.book.specs.Causes.{bad-size, short-work, unknown-kind, number, firstNumber, maxRecords}
-use Rattle.book.specs.Book.{Book, Edit, add, remove, lock, unlock, withdraw, reinstate, Call, edit, undo, close, answer, next, fresh, after, givens}
-use Rattle.register.specs.Representation.{Represents}
-use Rattle.register.specs.Calls.{answerOf, answerNumber, Steps, Closes}
+use Rattle.book.specs.Book.{Book, Edit, add, remove, lock, unlock, withdraw, reinstate, Call, edit, undo, close, answer, next, after}
+use Rattle.register.specs.Calls.{answerNumber, Steps, Closes}
 use Rattle.register.specs.declared.Register.{Register}
 use Rattle.register.specs.declared.Outcome.{Outcome}
 
@@ -112,19 +104,6 @@ unfoldable pub entryNext : Book → Entry → Book
 entryNext b (is-call c) = next b c
 entryNext b no-call = b
 
-abbrev pub roomMost : ℕ → ℕ
-roomMost room = pick (ltb maxRecords room) maxRecords room
-
-pub record EntryCloses (self : Register) (k : ℕ) (l : Lent) (out : Outcome) : Type 0 where
-  pub closes : Closes self (take k (l .before)) (take k (l .after)) out
-  pub past : drop k (l .after) ≡ drop k (l .before)
-
-abbrev pub EntrySteps : Register → Entry → Lent → Outcome → Type 0
-EntrySteps self (is-call (edit a)) l out = Steps self (edit a) out × (l .after ≡ l .before)
-EntrySteps self (is-call undo) l out = Steps self undo out × (l .after ≡ l .before)
-EntrySteps self (is-call (close room)) l out = EntryCloses self (roomMost room) l out
-EntrySteps self no-call l out = (out .answer ≡ answerOf (number unknown-kind)) × (out .register ≡ self) × (l .after ≡ l .before)
-
 unfoldable pub wordAnswers : Book → List ℕ → List ℕ
 wordAnswers b [] = []
 wordAnswers b (w ∷ ws) = entryNumber b (wordCall w) ∷ wordAnswers (entryNext b (wordCall w)) ws
@@ -171,14 +150,3 @@ replayNumber n words told numbers =
     firstNumber (
     (bad-size, ltb n 1 || ltb maxRecords n) ∷
     (short-work, ltb (length told) (length words) || ltb (length numbers) (maxRecords * closings (callsOf words))) ∷ [])
-
--- of the words of a list, on a fresh register of n records: the number told to each in one list, the words of the list past them as they were, the lists
--- that the closings up give in the other, and the register that represents the book after the calls among them; a refused replay leaves both lists as
--- they were and hands back no records
-pub record Replays (n : ℕ) (words : List ℕ) (list numbers : Lent) (out : Outcome) : Type 0 where
-  pub answer : out .answer ≡ answerOf (replayNumber n words (list .before) (numbers .before))
-  pub refused : (replayNumber n words (list .before) (numbers .before) ≡ 0 → ⊥)
-      → (list .after ≡ list .before) × (numbers .after ≡ numbers .before) × Represents (out .register) (fresh 0)
-  pub told : replayNumber n words (list .before) (numbers .before) ≡ 0 → list .after ≡ wordAnswers (fresh n) words ++ drop (length words) (list .before)
-  pub given : replayNumber n words (list .before) (numbers .before) ≡ 0 → numbers .after ≡ laid (givens (fresh n) (callsOf words)) (numbers .before)
-  pub book : replayNumber n words (list .before) (numbers .before) ≡ 0 → Represents (out .register) (after (fresh n) (callsOf words))

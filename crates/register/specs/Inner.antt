@@ -23,6 +23,10 @@
 --   Tested P ok           ok is whether P
 --   DraftSteps self e out what is promised of an entry of a draft: of a call what `Steps` says; no call is refused with 15 and changes nothing
 --   Reached self ws r     from the register self on, every word of ws was accepted, and they led to the register r
+--   Loads ws out    what `load` promises: the register of the words, or, if they are no register's, 16 and the register of no records
+--   Stores r before after ok
+--                   what `store` promises: the register's words in the front, or, with too few words, or counters or marks out of
+--                   range, false and nothing changed
 -- Assumes nothing: these are definitions.
 use mathlib.Core.Path.{_≡_}
 use mathlib.Core.List.{List, _∷_, []}
@@ -32,24 +36,25 @@ use lib.ListN.{length, take, drop, getD, replicate}
 use lib.Dec.{leb}
 use Rattle.book.specs.Basics.{pick, Rises}
 use Rattle.book.specs.Causes.{Cause, no-record, bad-label, locked-end, already, missing, withdrawn-record, unknown-kind, number, labels, maxRecords, maxLinks}
-use Rattle.book.specs.Causes.{maxHeld}
-use Rattle.book.specs.Book.{Link, Book, Call, Edit, add, remove, lock, unlock, withdraw, reinstate}
-use Rattle.links.specs.Links.{wordTotal}
+use Rattle.book.specs.Causes.{maxHeld, not-open}
+use Rattle.book.specs.Book.{Link, Book, Call, Edit, add, remove, lock, unlock, withdraw, reinstate, fresh}
+use Rattle.links.specs.Parts.{wordTotal}
 use Rattle.register.specs.Marks.{freeMark, lockMark, withdrawnMark, hasMark, Marked}
 use Rattle.register.specs.Packed.{Packed, kindUnit, takeBackKind}
-use Rattle.register.specs.Counters.{Ranged}
+use Rattle.register.specs.Counters.{Ranged, InRange}
 use Rattle.register.specs.Representation.{heldWords, packedOf, Represents}
 use Rattle.register.specs.Calls.{answerOf, Steps}
 use Rattle.register.specs.History.{CallsMade, Entry, is-call, no-call}
 use Rattle.register.specs.Drafts.{draftCalls, draftNumbers}
 use Rattle.register.specs.Questions.{Sized}
-use Rattle.register.specs.Words.{stateWords, marksAt, Keeps, OfWords}
+use Rattle.register.specs.Words.{stateWords, marksAt, Keeps, OfWords, Foreign}
 use Rattle.register.specs.declared.Register.{Register}
 use Rattle.register.specs.declared.Counters.{Counters}
 use Rattle.register.specs.declared.Edited.{Edited}
 use Rattle.register.specs.declared.Outcome.{Outcome}
 use Rattle.register.specs.declared.Linking.{Linking}
 use Rattle.register.specs.declared.Marking.{Marking}
+use Rattle.register.specs.declared.Answer.the-variants.{Done}
 
 unfoldable pub linkCauses : ℕ → List ℕ → Link → List (Cause × Bool)
 linkCauses n marks k =
@@ -156,3 +161,11 @@ pub data DraftSteps (self : Register) : Entry → Outcome → Type 0 where
 pub record Reached (self : Register) (ws : List ℕ) (r : Register) : Type 0 where
   pub made : CallsMade self (draftCalls ws) (replicate (length ws) 0) [] r
   pub numbers : (b : Book) → Represents self b → draftNumbers b ws ≡ replicate (length ws) 0
+
+pub record Loads (ws : List ℕ) (out : Outcome) : Type 0 where
+  pub loaded : out .answer ≡ Done → Keeps ws (out .register)
+  pub refused : (out .answer ≡ Done → ⊥) → (out .answer ≡ answerOf (number not-open)) × Foreign ws × Represents (out .register) (fresh 0)
+
+pub record Stores (r : Register) (before after : List ℕ) (ok : Bool) : Type 0 where
+  pub done : ok ≡ true → Keeps after r × (drop stateWords after ≡ drop stateWords before)
+  pub refused : ok ≡ false → (after ≡ before) × (stateWords ≤ length before → InRange r → Marked (r .marks) → ⊥)

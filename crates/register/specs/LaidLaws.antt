@@ -26,8 +26,10 @@ use Rattle.book.specs.GivenLaws.{room-same, given-length}
 use Rattle.book.specs.Sheets.{Sound}
 use Rattle.book.specs.ListLaws.{length-over}
 use Rattle.register.specs.Calls.{answerOf}
-use Rattle.register.specs.History.{Lent, Gives, none-given, more-given, Entry, is-call, no-call, entryNumber, entryNext, roomMost, EntrySteps, entryCalls}
-use Rattle.register.specs.History.{callsOf, isClose, closings, laid, parts, replayNumber, Replays}
+use Rattle.register.specs.History.{Lent, Gives, none-given, more-given, Entry, is-call, no-call, entryNumber, entryNext, entryCalls}
+use Rattle.register.specs.Replaying.{roomMost, EntrySteps}
+use Rattle.register.specs.History.{callsOf, isClose, closings, laid, parts, replayNumber}
+use Rattle.register.specs.Replaying.{Replays}
 use Rattle.register.specs.HistoryLaws.{represents-sound}
 use Rattle.register.specs.Representation.{Represents}
 use Rattle.register.specs.declared.Register.{Register}

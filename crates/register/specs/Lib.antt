@@ -5,6 +5,7 @@ pub mod Representation
 pub mod Calls
 pub mod Entries
 pub mod History
+pub mod Replaying
 pub mod Made
 pub mod Questions
 pub mod Words

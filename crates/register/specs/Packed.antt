@@ -15,7 +15,8 @@ use lib.Dec.{eqb}
 use Rattle.book.specs.Basics.{without}
 use Rattle.book.specs.Book.{Sheet, Edit, add, remove, lock, unlock, withdraw, reinstate, total}
 use Rattle.book.specs.Sheets.{Fit}
-use Rattle.links.specs.Links.{linkWord, wordTotal, Linked}
+use Rattle.links.specs.Links.{linkWord, Linked}
+use Rattle.links.specs.Parts.{wordTotal}
 use Rattle.links.specs.Ascending.{insert}
 use Rattle.register.specs.Marks.{freeMark, lockMark, withdrawnMark, markOf}
 

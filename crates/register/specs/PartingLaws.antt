@@ -2,10 +2,10 @@
 --   filter-in, in-filter   the members of a filtered list: those that pass
 --   length-filter, tally-filter, filter-append
 --                          as many as pass; those of them that pass another test; of a joined list
+--   filter-next            a list's filtered front, one member more
 --   rises-filter           an ascending list stays so
 --   has-filter, filter-has, absent-filter, distinct-filter
 --                          the members by the computed test; what is absent stays so, and what stands once still does
---   filter-next            a list's filtered front, one member more
 --   present-without        a link is left if it was there and does not touch the record
 --   fit-without, linked-without
 --                          a fit sheet stays fit without the record's links, and the words of its links are those that do not touch the record
@@ -26,7 +26,8 @@ use Rattle.book.specs.ListLaws.{in-none, in-front, rises-from}
 use Rattle.book.specs.SetLaws.{EqualityTest, sameLink-test, has-in, in-has}
 use Rattle.book.specs.Sheets.{Distinct, Fit}
 use Rattle.book.specs.TotalLaws.{tally-le}
-use Rattle.links.specs.Links.{linkOf, Linked}
+use Rattle.links.specs.Links.{Linked}
+use Rattle.links.specs.Parts.{linkOf}
 use Rattle.links.specs.LinkLaws.{word-link}
 use Rattle.register.specs.Parting.{filter, apart, withoutLinks}
 use Rattle.register.specs.Apart.{apartWord}

@@ -33,7 +33,8 @@ use Rattle.register.specs.Marks.{freeMark, lockMark, withdrawnMark, hasM
 use Rattle.register.specs.MarkLaws.{shows-locked, shows-withdrawn}
 use Rattle.register.specs.Questions.{Sized, Listing, MarkList, Locking, Withdrawal, TotalList}
 use Rattle.register.specs.Inner.{Formed, KeepsOne, markIn}
-use Rattle.register.specs.Words.{stateWords, linksAt, ringAt, marksAt, totalsAt, numbersOf, stateOf, Keeps, Foreign, OfWords, Loads, Edits}
+use Rattle.register.specs.Words.{stateWords, linksAt, ringAt, marksAt, totalsAt, numbersOf, stateOf, Keeps, Foreign, OfWords, Edits}
+use Rattle.register.specs.Inner.{Loads}
 use Rattle.register.specs.declared.Register.{Register}
 use Rattle.register.specs.declared.Answer.{Answer}
 use Rattle.register.specs.declared.Answer.the-variants.{Done, Refused}

@@ -8,27 +8,20 @@
 --   Foreign ws      the front of ws is the words of no register
 --   OfWords ws P none a
 --                   what is read of words: of a register's words a is what P promises of that register; of words that are no register's it is none
---   Loads ws out    what `load` promises: the register of the words, or, if they are no register's, 16 and the register of no records
---   Stores r before after ok
---                   what `store` promises: the register's words in the front, or, with too few words, or counters or marks out of
---                   range, false and nothing changed
 --   Edits c before after k
 --                   what an edit or undo of such words promises: over any words a refused one leaves them; words that are no register's are refused
 --                   with 16; of a register's words the number and the words after it are those of an outcome that the call c promises
 -- Assumes nothing: these are definitions.
 use mathlib.Core.Path.{_≡_}
 use mathlib.Core.List.{List, [], _∷_, _++_}
-use mathlib.Core.Bool.{Bool, true, false}
-use Prim.Native.Nat.{ℕ, _+_, _≤_}
+use Prim.Native.Nat.{ℕ, _+_}
 use lib.ListN.{length, take, drop}
 use Rattle.book.specs.Causes.{not-open, number, labels, maxLinks, maxHeld, maxRecords}
-use Rattle.book.specs.Book.{Call, fresh}
+use Rattle.book.specs.Book.{Call}
 use Rattle.register.specs.Marks.{Marked}
 use Rattle.register.specs.Counters.{InRange}
-use Rattle.register.specs.Representation.{Represents}
-use Rattle.register.specs.Calls.{answerOf, answerNumber, Steps}
+use Rattle.register.specs.Calls.{answerNumber, Steps}
 use Rattle.register.specs.declared.Register.{Register}
-use Rattle.register.specs.declared.Answer.the-variants.{Done}
 use Rattle.register.specs.declared.Outcome.{Outcome}
 
 abbrev pub linksAt : ℕ
@@ -68,14 +61,6 @@ Foreign ws = (r : Register) → Keeps ws r → ⊥
 pub record OfWords {A : Type 0} (ws : List ℕ) (P : Register → A → Type 0) (none a : A) : Type 0 where
   pub kept : (r : Register) → Keeps ws r → P r a
   pub foreign : Foreign ws → a ≡ none
-
-pub record Loads (ws : List ℕ) (out : Outcome) : Type 0 where
-  pub loaded : out .answer ≡ Done → Keeps ws (out .register)
-  pub refused : (out .answer ≡ Done → ⊥) → (out .answer ≡ answerOf (number not-open)) × Foreign ws × Represents (out .register) (fresh 0)
-
-pub record Stores (r : Register) (before after : List ℕ) (ok : Bool) : Type 0 where
-  pub done : ok ≡ true → Keeps after r × (drop stateWords after ≡ drop stateWords before)
-  pub refused : ok ≡ false → (after ≡ before) × (stateWords ≤ length before → InRange r → Marked (r .marks) → ⊥)
 
 pub record Edits (c : Call) (before after : List ℕ) (k : ℕ) : Type 0 where
   pub refused : (k ≡ 0 → ⊥) → after ≡ before

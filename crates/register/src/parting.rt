@@ -7,7 +7,7 @@ use links::to_of;
 ghost use mathlib.Core.Path.{_≡_};
 ghost use Prim.Native.Nat.{_/_, _≤_};
 ghost use lib.ListN.{length, take};
-ghost use Rattle.links.specs.Links.{labelUnit};
+ghost use Rattle.links.specs.Parts.{labelUnit};
 ghost use Rattle.links.specs.Totals.{Lowered};
 ghost use Rattle.register.specs.Parting.{filter, Without};
 ghost use Rattle.register.specs.Apart.{apartWord, Kept};

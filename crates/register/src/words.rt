@@ -22,7 +22,8 @@ ghost use Rattle.register.specs.Marks.{hasMark, Marked};
 ghost use Rattle.register.specs.Calls.{callOf};
 ghost use Rattle.register.specs.Questions.{Totals};
 ghost use Rattle.register.specs.Inner.{KeepsOne, SizeIn, markIn, Shown, Tested};
-ghost use Rattle.register.specs.Words.{OfWords, Loads, Stores, Edits};
+ghost use Rattle.register.specs.Words.{OfWords, Edits};
+ghost use Rattle.register.specs.Inner.{Loads, Stores};
 ghost use Rattle.answers.specs.declared.Counted.the-variants.{Refused};
 
 // The places of the counters, and of the first link, the ring, the first mark and the first total; and how many words a register has.

@@ -25,7 +25,7 @@ use Rattle.paths.specs.Chains.{asked}
 use Rattle.paths.specs.Relations.{cells, pairs}
 use Rattle.paths.specs.Questions.{Engine, by-trees, by-rows, pairsWork, rowWidth, rowsWork, workFor}
 use Rattle.links.specs.Lookups.{LabelPart}
-use Rattle.links.specs.Links.{linkPair}
+use Rattle.links.specs.Parts.{linkPair}
 use Rattle.grid.specs.Grid.{first}
 use Rattle.query.specs.Asking.{maxPairs}
 use Rattle.query.specs.Evaluation.{Coded}

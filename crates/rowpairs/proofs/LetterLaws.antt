@@ -29,8 +29,8 @@ use Rattle.k2.specs.PairSetLaws.{set-in, in-set, set-past}
 use Rattle.paths.specs.Expressions.{Letter}
 use Rattle.paths.specs.Chains.{Graph, asked}
 use Rattle.paths.specs.Relations.{crossedBy}
-use Rattle.rows.specs.Rows.{noPairs, labelled, crossedWords}
-use Rattle.links.specs.Links.{linkPair}
+use Rattle.rows.specs.RowSets.{noPairs, labelled, crossedWords}
+use Rattle.links.specs.Parts.{linkPair}
 use Rattle.rows.specs.RowLaws.{crossed-set, labelled-none, set-none, union-right, union-join}
 use Rattle.reader.specs.Letters.{lettersIn}
 use Rattle.links.specs.Lookups.{PairsOf, LabelPart}

@@ -32,7 +32,7 @@ use Rattle.paths.specs.PairLaws.{fit-inside}
 use Rattle.reader.specs.declared.items.Item.{Item}
 use Rattle.reader.specs.Letters.{lettersIn}
 use Rattle.reader.specs.Code.{does, run}
-use Rattle.links.specs.Links.{linkPair}
+use Rattle.links.specs.Parts.{linkPair}
 use Rattle.links.specs.Lookups.{LabelPart}
 use Rattle.query.specs.Evaluation.{relations, Coded, Lettered}
 use Rattle.query.specs.EvaluationLaws.{coded-value}

@@ -7,7 +7,7 @@ use Rattle.k2.specs.PairSets.{Cells, union, closure, diagonal}
 use Rattle.k2.specs.PairSetLaws.{bit-small, diagonal-set}
 use Rattle.paths.specs.Chains.{asked}
 use Rattle.paths.specs.Relations.{crossedBy, zeroSteps}
-use Rattle.rows.specs.Rows.{noPairs}
+use Rattle.rows.specs.RowSets.{noPairs}
 use Rattle.rows.specs.RowLaws.{union-none}
 use Rattle.reader.specs.declared.items.Item.{Item}
 use Rattle.reader.specs.declared.items.Item.the-variants.{Letters, Star}

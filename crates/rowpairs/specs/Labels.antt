@@ -27,7 +27,7 @@ use Rattle.reader.specs.declared.items.Item.the-variants.{Letters}
 use Rattle.reader.specs.Code.{itemOf}
 use Rattle.reader.specs.Letters.{lettersIn}
 use Rattle.links.specs.Lookups.{LabelPart}
-use Rattle.links.specs.Links.{linkPair}
+use Rattle.links.specs.Parts.{linkPair}
 use Rattle.grid.specs.Grid.{first}
 use Rattle.query.specs.Evaluation.{Lettered}
 

@@ -12,7 +12,7 @@ ghost use lib.ListN.{length, take, drop};
 ghost use Rattle.book.specs.Causes.{maxRecords, maxLinks};
 ghost use Rattle.paths.specs.Questions.{Engine, workFor};
 ghost use Rattle.paths.specs.Verdicts.{verdict};
-ghost use Rattle.links.specs.Links.{linkPair};
+ghost use Rattle.links.specs.Parts.{linkPair};
 ghost use Rattle.query.specs.Asking.{AsksFor, AsksPairs, AsksRows};
 ghost use Rattle.rowpairs.specs.Labels.{Alone, LetterListed};
 ghost use Rattle.register.specs.declared.Register.{Register};

@@ -29,8 +29,9 @@ use Rattle.k2.specs.PairSets.{Cells, IsSet, setOf, union, transpose, diagonal}
 use Rattle.k2.specs.PairSetLaws.{set-bit, set-past}
 use Rattle.bits.specs.BitSets.{put, Gap}
 use Rattle.bits.specs.BitSetLaws.{put-at, put-off}
-use Rattle.rows.specs.Rows.{flat, labelled, crossedWords, RowsOf}
-use Rattle.links.specs.Links.{linkPair}
+use Rattle.rows.specs.Rows.{flat}
+use Rattle.rows.specs.RowSets.{labelled, crossedWords, RowsOf}
+use Rattle.links.specs.Parts.{linkPair}
 use Rattle.rows.specs.RowLaws.{union-join, union-swap}
 use Rattle.rows.specs.Steps.{below}
 use Rattle.rows.proofs.SearchLaws.{below-in, below-out, below-skip}

@@ -1,3 +1,4 @@
 pub mod Rows
+pub mod RowSets
 pub mod Steps
 pub mod RowLaws

@@ -31,8 +31,9 @@ use Rattle.k2.specs.PairSetLaws.{union-set, transpose-set, setOf-set}
 use Rattle.k2.specs.Trees.{treeWords}
 use Rattle.k2.specs.TreeLaws.{treeWords-none}
 use Rattle.bits.specs.BitSets.{none, both, minus, Gap}
-use Rattle.rows.specs.Rows.{flat, noPairs, labelled, crossedWords, places, pairsIn}
-use Rattle.links.specs.Links.{linkPair}
+use Rattle.rows.specs.Rows.{flat, places}
+use Rattle.rows.specs.RowSets.{noPairs, labelled, crossedWords, pairsIn}
+use Rattle.links.specs.Parts.{linkPair}
 
 pub flat-at : (a : Cells) (x y : ℕ) → y < 1024 → flat a (x * 1024 + y) ≡ a x y
 unfolding flat

@@ -1,44 +1,14 @@
 -- Sets of pairs of records below 1,024 as rows of bits: 1,024 rows of 16 words, so that bit p of the rows is the pair word p.
 --   flat a          the bits of a set's rows
---   noPairs         the set that has no pair
---   labelled m ws   the words of the links ws whose label is in the set m of labels, bit l of which stands for the label l
---   crossedWords ws forward against
---                   the pairs joined by one step over the links ws: forward over those whose label is in the set `forward`, and against their sense over
---                   those whose label is in the set `against`
---   RowsOf n ws     the words are the rows of some set of pairs below n
 --   places f n      the places below n at which f is not 0, ascending
---   pairsIn n ws    the pair words that the first n rows of ws hold, ascending, whatever the words are
 -- Assumes nothing: these are definitions.
-use mathlib.Core.Path.{_≡_}
-use mathlib.Core.List.{List, [], _∷_, _++_, map}
-use Prim.Native.Nat.{ℕ, zero, suc, _*_, _/_, _%_}
-use lib.Dec.{eqb}
-use Rattle.book.specs.Basics.{pick}
-use Rattle.k2.specs.Bits.{digit, bitAt}
-use Rattle.links.specs.Links.{linkOf, linkPair}
-use Rattle.k2.specs.PairSets.{Cells, IsSet, ifSet, setOf, union, transpose}
+use mathlib.Core.List.{List, [], _++_}
+use Prim.Native.Nat.{ℕ, zero, suc, _/_, _%_}
+use Rattle.k2.specs.PairSets.{Cells, ifSet}
 
 unfoldable pub flat : Cells → ℕ → ℕ
 flat a p = a (p / 1024) (p % 1024)
 
-unfoldable pub noPairs : Cells
-noPairs x y = 0
-
-unfoldable pub labelled : ℕ → List ℕ → List ℕ
-labelled m [] = []
-labelled m (w ∷ ws) = pick (eqb (digit m (linkOf w .label)) 1) (w ∷ labelled m ws) (labelled m ws)
-
-unfoldable pub crossedWords : List ℕ → ℕ → ℕ → Cells
-crossedWords ws forward against = union (setOf (map linkPair (labelled forward ws))) (transpose (setOf (map linkPair (labelled against ws))))
-
-pub record RowsOf (n : ℕ) (ws : List ℕ) : Type 0 where
-  pub set : Cells
-  pub is-set : IsSet n set
-  pub rows : bitAt ws ≡ flat set
-
 unfoldable pub places : (ℕ → ℕ) → ℕ → List ℕ
 places f zero = []
 places f (suc n) = places f n ++ ifSet (f n) n
-
-abbrev pub pairsIn : ℕ → List ℕ → List ℕ
-pairsIn n ws = places (bitAt ws) (n * 1024)

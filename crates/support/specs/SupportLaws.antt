@@ -24,7 +24,8 @@ use lib.ListN.{length}
 use lib.Dec.{leb, ltb, eqb}
 use borrow.Author.Tests.{eq-eqb, eqb-true, eqb-false, ne-eqb, le-leb, leb-true, not-true}
 use Rattle.book.specs.Basics.{pick, In, here, there, Rises, ended, rises}
-use Rattle.book.specs.Causes.{supportOrder, InOrder, same-cause, maxRecords}
+use Rattle.book.specs.Causes.{maxRecords}
+use Rattle.book.specs.CauseOrders.{supportOrder, InOrder, same-cause}
 use Rattle.book.specs.Book.{Link, Book, Call, fresh, after}
 use Rattle.book.specs.ListLaws.{in-left, in-right, in-either, in-none, in-one, rises-same}
 use Rattle.book.specs.SetLaws.{and-both, or-true}

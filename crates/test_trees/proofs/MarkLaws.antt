@@ -12,7 +12,7 @@ use Rattle.k2.specs.PairSets.{Cells, IsSet, union, diagonal}
 use Rattle.k2.specs.Trees.{treeWords}
 use Rattle.bits.specs.BitSets.{none, put}
 use Rattle.bits.specs.BitSetLaws.{put-at, put-off}
-use Rattle.rows.specs.Rows.{noPairs}
+use Rattle.rows.specs.RowSets.{noPairs}
 use Rattle.rows.specs.RowLaws.{none-set, none-tree, union-none}
 use Rattle.packing.specs.declared.loading.Sense.the-variants.{Plain}
 use Rattle.tree.specs.declared.operations.Operation.the-variants.{Optional}

@@ -29,7 +29,8 @@ use Rattle.k2.specs.TreeSetLaws.{formed-set}
 use Rattle.k2.specs.SizeLaws.{treeUnit-some}
 use Rattle.bits.specs.BitSets.{none}
 use Rattle.bits.specs.BitSetLaws.{bits-none}
-use Rattle.rows.specs.Rows.{flat, noPairs, crossedWords, pairsIn}
+use Rattle.rows.specs.Rows.{flat}
+use Rattle.rows.specs.RowSets.{noPairs, crossedWords, pairsIn}
 use Rattle.rows.specs.RowLaws.{flat-none, none-set, none-tree, union-none, union-right, union-join, crossed-none, pairs-in}
 use Rattle.packing.specs.declared.loading.Sense.{Sense}
 use Rattle.packing.specs.Senses.{sensed}

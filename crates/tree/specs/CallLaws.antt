@@ -20,7 +20,8 @@ use lib.Dec.{ltb}
 use lib.ListN.{length}
 use borrow.Author.Tests.{lt-ltb, le-ltb, ltb-true, ltb-false, not-false}
 use Rattle.book.specs.Basics.{pick, In, here, there}
-use Rattle.book.specs.Causes.{Cause, bad-size, no-record, bad-tree, short-work, short-list, number, treeOrder, firstNumber, InOrder, none-left, same-cause}
+use Rattle.book.specs.Causes.{Cause, bad-size, no-record, bad-tree, short-work, short-list, number, firstNumber}
+use Rattle.book.specs.CauseOrders.{treeOrder, InOrder, none-left, same-cause}
 use Rattle.book.specs.Causes.{maxRecords}
 use Rattle.book.specs.ListLaws.{in-none}
 use Rattle.book.specs.SetLaws.{and-both, or-neither}

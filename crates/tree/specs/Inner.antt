@@ -33,8 +33,9 @@ use Rattle.k2.specs.Sizes.{rowsWords}
 use Rattle.k2.specs.Bits.{bitAt}
 use Rattle.k2.specs.PairSets.{Cells, IsSet, PairsBelow, union, intersection, difference, product, closure, diagonal}
 use Rattle.k2.specs.Trees.{treeWords, treeUnit}
-use Rattle.rows.specs.Rows.{flat, crossedWords}
-use Rattle.links.specs.Links.{linkPair}
+use Rattle.rows.specs.Rows.{flat}
+use Rattle.rows.specs.RowSets.{crossedWords}
+use Rattle.links.specs.Parts.{linkPair}
 use Rattle.packing.specs.declared.loading.Sense.{Sense}
 use Rattle.packing.specs.declared.loading.Sense.the-variants.{Plain}
 use Rattle.packing.specs.Senses.{sensed, opposite}

@@ -5,7 +5,7 @@ use Prim.Native.Nat.{ℕ, _≤_, _<_}
 use Rattle.book.specs.Causes.{maxRecords}
 use Rattle.k2.specs.PairSets.{Cells, IsSet, union, transpose, closure, diagonal}
 use Rattle.k2.specs.PairSetLaws.{union-set, intersection-set, difference-set, product-set, closure-set, diagonal-set}
-use Rattle.rows.specs.Rows.{noPairs, crossedWords}
+use Rattle.rows.specs.RowSets.{noPairs, crossedWords}
 use Rattle.rows.specs.RowLaws.{union-none, union-right, crossed-none, crossed-set}
 use Rattle.packing.specs.declared.loading.Sense.{Sense}
 use Rattle.packing.specs.Senses.{sensed}

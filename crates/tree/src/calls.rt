@@ -18,7 +18,7 @@ ghost use Rattle.k2.specs.Sizes.{mostTreeWords};
 ghost use Rattle.k2.specs.PairSets.{Cells, IsSet, listed, union, intersection, difference, transpose, closure, PairsBelow};
 ghost use Rattle.k2.specs.Trees.{treeWords};
 ghost use Rattle.bits.specs.BitSets.{none};
-ghost use Rattle.rows.specs.Rows.{noPairs};
+ghost use Rattle.rows.specs.RowSets.{noPairs};
 ghost use Rattle.packing.specs.Senses.{sensed};
 ghost use Rattle.tree.specs.Inner.{treeAlone, outcome, Roomy, Lent, termSet, TreeAt};
 ghost use Rattle.answers.specs.Answers.{Whole, FirstPart};

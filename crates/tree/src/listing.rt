@@ -3,7 +3,7 @@ ghost use mathlib.Core.Path.{_≡_};
 ghost use Prim.Native.Nat.{_≤_};
 ghost use lib.ListN.{length};
 ghost use Rattle.book.specs.Causes.{maxRecords};
-ghost use Rattle.rows.specs.Rows.{pairsIn};
+ghost use Rattle.rows.specs.RowSets.{pairsIn};
 ghost use Rattle.answers.specs.Answers.{FirstPart};
 ghost use Rattle.k2.specs.Sizes.{rowsWords};
 use answers::Counted;

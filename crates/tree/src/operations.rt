@@ -10,7 +10,8 @@ ghost use Rattle.k2.specs.Sizes.{rowsWords};
 ghost use Rattle.k2.specs.Bits.{bitAt};
 ghost use Rattle.k2.specs.PairSets.{Cells, IsSet, union};
 ghost use Rattle.k2.specs.Trees.{treeWords, treeUnit};
-ghost use Rattle.rows.specs.Rows.{flat, crossedWords};
+ghost use Rattle.rows.specs.Rows.{flat};
+ghost use Rattle.rows.specs.RowSets.{crossedWords};
 ghost use Rattle.packing.specs.Senses.{sensed, opposite};
 ghost use Rattle.tree.specs.Inner.{nothing, flipped, valued, LinksBelow, Apart, outcome, Roomy, Room, InRows, Operated};
 

@@ -16,6 +16,22 @@ Inv-loop words lo end q₀ rest past q = (past ≡ end / 64) × (q ≤ past + 1)
 abbrev μ-loop : tie.MeasureT-loop
 μ-loop words lo end q₀ rest past q = past + 1 - q
 
+-- The places that the needs come back to.
+abbrev start-of-loop : tie.At-loop Inv-loop μ-loop → tie.Start Inv-loop μ-loop
+start-of-loop p = p .before .before .before .before .before
+
+abbrev start-of-lowest-set2 : tie.After-lowest-set2 Inv-loop μ-loop → tie.Start Inv-loop μ-loop
+start-of-lowest-set2 p =
+    let at-in-loop = p .before .before .before .before .before in
+    let at-loop = at-in-loop .before in
+    at-loop .before .before .before .before .before
+
+abbrev loop-of-lowest-set2 : tie.After-lowest-set2 Inv-loop μ-loop → tie.At-loop Inv-loop μ-loop
+loop-of-lowest-set2 p = let at-in-loop = p .before .before .before .before .before in at-in-loop .before
+
+abbrev start-of-loop-end : tie.After-loop Inv-loop μ-loop → tie.Start Inv-loop μ-loop
+start-of-loop-end p = start-of-loop (p .before)
+
 returns : tie.Need-returns Inv-loop μ-loop
 returns c =
     let a = c .before .before .args in
@@ -35,28 +51,29 @@ loop-holds c =
 
 returns-3 : tie.Need-returns-3 Inv-loop μ-loop
 returns-3 c =
-    let a = c .before .before .before .before .before .before .before .args in
+    let a = start-of-loop (c .before .before) .args in
     let l = c .before .before .loop in
     next-none _ (a .lo) (a .end) (a .end) (omega arith) (omega arith)
     (gap-join _ (a .lo) (l .q * 64) (a .end) (l .inv .3) (gap-past (a .words .now) (l .q * 64) (a .end) (omega arith)))
 
 returns-4 : tie.Need-returns-4 Inv-loop μ-loop
 returns-4 c =
-    let a = c .before .before .before .before .before .before .before .before .before .before .before .args in
-    let l = c .before .before .before .before .before .before .loop in
+    let a = start-of-lowest-set2 c .args in
+    let l = loop-of-lowest-set2 c .loop in
     next-after _ (a .lo) (l .q * 64) (a .end) _ (l .inv .2) (l .inv .3)
     (next-word (a .words .now) (l .q) (a .end) _ (c .before .before .before .shared-slice-known3 .given (l .q) .fits)
     (omega (arith, c .before .before .if4 .taken)) (omega arith) (c .lowest-set2 .ensures))
 
 loop-again : tie.Need-loop-again Inv-loop μ-loop
 loop-again c =
-    let a = c .before .before .before .before .before .before .before .before .before .args in
-    let l = c .before .before .before .before .loop in
+    let at-loop = c .before .before .before .before in
+    let a = start-of-loop at-loop .args in
+    let l = at-loop .loop in
     (refl, omega arith, omega arith, gap-join _ (a .lo) (l .q * 64) _ (l .inv .3) (gap-word (a .words .now) (l .q) (c .if4 .left)))
 
 returns-5 : tie.Need-returns-5 Inv-loop μ-loop
 returns-5 c =
-    let a = c .before .before .before .before .before .before .args in
+    let a = start-of-loop-end c .args in
     let l = c .before .loop in
     next-none _ (a .lo) (l .q * 64) (a .end) (omega arith) (omega arith) (l .inv .3)
 

@@ -1,6 +1,7 @@
 -- `book::numbers`: both lists computed. Assumes nothing.
 use mathlib.Core.Path.{refl}
-use Rattle.book.specs.Causes.{allCauses, number}
+use Rattle.book.specs.Causes.{number}
+use Rattle.book.specs.CauseOrders.{allCauses}
 use Rattle.book.proofs.numbers.Statement.{statement}
 use Rattle.book.proofs.numbers.Tie as tie
 

@@ -24,6 +24,16 @@ Inv-loop state₀ bytes₀ list₀ out₀ turns₀ state bytes list out turns =
 abbrev μ-loop : tie.MeasureT-loop
 μ-loop state₀ bytes₀ list₀ out₀ turns₀ state bytes list out turns = turns
 
+-- The places that the needs come back to.
+abbrev turn-of-then1 : tie.Then1 Inv-loop μ-loop → tie.After-turn Inv-loop μ-loop
+turn-of-then1 p = let at-list2 = p .before .before .before .before .before in at-list2 .before .before
+
+abbrev turn-of-then2 : tie.Then2 Inv-loop μ-loop → tie.After-turn Inv-loop μ-loop
+turn-of-then2 p = let at-ran = p .before .before .before .before .before in at-ran .before .before .before .before
+
+abbrev turn-of-else2 : tie.Else2 Inv-loop μ-loop → tie.After-turn Inv-loop μ-loop
+turn-of-else2 p = let at-ran = p .before .before .before .before .before in at-ran .before .before .before .before
+
 unopened-requires : tie.Need-unopened-requires Inv-loop μ-loop
 unopened-requires c κs = tt
 
@@ -56,7 +66,7 @@ some c = omega arith
 
 returns : tie.Need-returns Inv-loop μ-loop
 returns c =
-    let after-turn = c .before .before .before .before .before .before .before in
+    let after-turn = turn-of-then1 c in
     let in-loop = after-turn .before .before .before .before in
     let l = in-loop .before .loop in
     let t = after-turn .turn in
@@ -66,7 +76,7 @@ returns c =
 
 returns-2 : tie.Need-returns-2 Inv-loop μ-loop
 returns-2 c =
-    let after-turn = c .before .before .before .before .before .before .before .before .before in
+    let after-turn = turn-of-then2 c in
     let in-loop = after-turn .before .before .before .before in
     let l = in-loop .before .loop in
     let t = after-turn .turn in
@@ -76,7 +86,7 @@ returns-2 c =
 
 loop-again : tie.Need-loop-again Inv-loop μ-loop
 loop-again c =
-    let after-turn = c .before .before .before .before .before .before .before .before .before in
+    let after-turn = turn-of-else2 c in
     let in-loop = after-turn .before .before .before .before in
     let l = in-loop .before .loop in
     let t = after-turn .turn in

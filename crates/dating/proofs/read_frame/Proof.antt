@@ -13,6 +13,10 @@ use borrow.Author.Needs.{needs}
 use Rattle.dating.proofs.read_frame.Statement.{statement}
 use Rattle.dating.proofs.read_frame.Tie as tie
 
+-- The places that the needs come back to.
+abbrev read-full-of-read-full2 : tie.After-read-full2 → tie.After-read-full
+read-full-of-read-full2 p = let at-following = p .before .before in at-following .before .before .before .before .before
+
 slice-aggregate-read-full : tie.Need-slice-aggregate-read-full
 slice-aggregate-read-full c = sym (length-take-le 2 (now (c .before .before .args .bytes)) (omega arith))
 
@@ -51,7 +55,7 @@ part-read-full-end c = omega (arith, small (c), long (c .before .before .before 
 -- and what comes after it at most as many as follow
 rest : (c : tie.After-read-full2) → c .read-full2 .result ≤ c .before .before .following .result
 rest c =
-    let after-read-full = c .before .before .before .before .before .before .before in
+    let after-read-full = read-full-of-read-full2 c in
     let start = after-read-full .before .before .before in
     let k = c .read-full2 .kept .1 .0 in
     let n = c .before .before .following .result in

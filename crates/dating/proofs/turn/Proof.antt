@@ -6,6 +6,10 @@ use borrow.Author.Needs.{needs}
 use Rattle.dating.proofs.turn.Statement.{statement}
 use Rattle.dating.proofs.turn.Tie as tie
 
+-- The places that the needs come back to.
+abbrev step-of-write-all : tie.After-write-all → tie.After-step
+step-of-write-all p = let at-list = p .before .before .before .before .before in at-list .before .before
+
 slice-aggregate-step : tie.Need-slice-aggregate-step
 slice-aggregate-step c = sym (length-take-le _ _ (omega arith))
 
@@ -14,7 +18,7 @@ slice-aggregate-write-all c = sym (length-take-le _ _ (omega arith))
 
 returns : tie.Need-returns
 returns c =
-    let after-step = c .before .before .before .before .before .before .before in
+    let after-step = step-of-write-all c in
     let earlier = after-step .before .before .before .before in
     let after-read-frame = earlier .before .before .before in
     let size = slice-aggregate-step earlier in

@@ -18,6 +18,13 @@ use Rattle.engine.specs.DemandLaws.{claims, replayed-calls, none-linked}
 use Rattle.engine.proofs.inquire.Statement.{statement}
 use Rattle.engine.proofs.inquire.Tie as tie
 
+-- The places that the needs come back to.
+abbrev replay-of-number-of : tie.After-number-of → tie.After-replay
+replay-of-number-of p = let at-told = p .before .before .before .before .before in at-told .before
+
+abbrev pairs-of-chain : tie.After-chain → tie.After-pairs
+pairs-of-chain p = let at-slice-known8 = p .before .before .before .before .before in at-slice-known8 .before .before
+
 returns : tie.Need-returns
 unfolding has fresh total tally
 returns c =
@@ -25,7 +32,7 @@ returns c =
     let after-size = after-marks .before .before in
     let after-number-of = after-size .before in
     let told = after-number-of .number-of .ensures in
-    let p = after-number-of .before .before .before .before .before .before .replay .ensures in
+    let p = replay-of-number-of after-number-of .replay .ensures in
     let k : after-number-of .number-of .result ≡ replayNumber _ _ _ _ = told ∙ ap answerNumber (p .answer) ∙ number-answer _ in
     record {
       answer = p .answer;
@@ -53,11 +60,11 @@ lent {e} {x} {y} {u} {l = l} {l′} {t} q R = subst (λ (j : ℕ). Replies e x y
 returns-2 : tie.Need-returns-2
 returns-2 c =
     let after-chain = c .before .before .before .before in
-    let after-pairs = after-chain .before .before .before .before .before .before .before in
+    let after-pairs = pairs-of-chain after-chain in
     let else1 = after-pairs .before .before .before in
     let after-links = else1 .before .before .before in
     let after-number-of = after-links .before .before in
-    let after-replay = after-number-of .before .before .before .before .before .before in
+    let after-replay = replay-of-number-of after-number-of in
     let replied = after-chain .chain .ensures in
     let long = after-pairs .pairs .kept .1 .1 .0 in
     let asked = after-pairs .pairs .ensures in

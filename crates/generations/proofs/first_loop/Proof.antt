@@ -22,23 +22,30 @@ part-chain-end c =
 
 returns : tie.Need-returns
 returns c =
-    let after-chain = c .before .before .before .before .before .before .before in
-    let p = after-chain .before .before .before .before .before .before .put-text in
+    let told = c .before .before .before .before .before in
+    let after-chain = told .before .before in
+    let asked = after-chain .before .before .before in
+    let p = asked .before .before .before .put-text in
     let part : p .result - 0 ≡ p .result = omega arith in
     let all = looped (after-chain .chain .ensures) (ap (λ (k : ℕ). take k (p .last .1 .0)) part ∙ p .ensures .1) in
     rw (c .before .answer .given .1) at all
 
 returns-2 : tie.Need-returns-2
 returns-2 c =
-    let p = c .before .before .before .before .before .before .before .before .before .before .before .before .put-text in
+    let told = c .before .before .before .before .before in
+    let after-chain = told .before in
+    let asked = after-chain .before .before .before in
+    let p = asked .before .before .before .put-text in
     let part : p .result - 0 ≡ p .result = omega arith in
-    let all = looped (c .before .before .before .before .before .before .chain .ensures) (ap (λ (k : ℕ). take k (p .last .1 .0)) part ∙ p .ensures .1) in
+    let all = looped (after-chain .chain .ensures) (ap (λ (k : ℕ). take k (p .last .1 .0)) part ∙ p .ensures .1) in
     rw (c .enum-told .given .1) at all
 
 returns-3 : tie.Need-returns-3
 returns-3 c =
-    let after-chain = c .before .before .before .before .before .before .before in
-    let p = after-chain .before .before .before .before .before .before .put-text in
+    let told = c .before .before .before .before .before in
+    let after-chain = told .before .before in
+    let asked = after-chain .before .before .before in
+    let p = asked .before .before .before .put-text in
     let part : p .result - 0 ≡ p .result = omega arith in
     let all = looped (after-chain .chain .ensures) (ap (λ (k : ℕ). take k (p .last .1 .0)) part ∙ p .ensures .1) in
     rw (c .before .answer2 .given .1) at all

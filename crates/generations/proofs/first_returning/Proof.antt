@@ -3,7 +3,8 @@ use mathlib.Core.Path.{sym, ap, _∙_}
 use borrow.Author.Needs.{needs}
 use Rattle.k2.specs.PairSets.{Cells}
 use Rattle.bits.specs.BitSetLaws.{bits-none}
-use Rattle.rows.specs.Rows.{flat, noPairs, crossedWords}
+use Rattle.rows.specs.Rows.{flat}
+use Rattle.rows.specs.RowSets.{noPairs, crossedWords}
 use Rattle.rows.specs.RowLaws.{flat-none, union-none}
 use Rattle.generations.proofs.NumberLaws.{smallest-closed}
 use Rattle.generations.proofs.first_returning.Statement.{statement}

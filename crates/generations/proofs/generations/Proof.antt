@@ -12,12 +12,43 @@ use Rattle.book.specs.Book.{Book}
 use Rattle.paths.specs.Chains.{asked}
 use Rattle.links.specs.Links.{Linked}
 use Rattle.register.specs.Representation.{Represents}
-use Rattle.rows.specs.Rows.{labelled}
+use Rattle.rows.specs.RowSets.{labelled}
 use Rattle.generations.specs.Generations.{GenerationsAre, numbers, above, written}
 use Rattle.generations.specs.Inner.{Right, Leads, chosen}
 use Rattle.generations.proofs.AnswerLaws.{label-first, work-next, list-last, told, refuses, tells-numbers, tells-loop, book-numbers, book-loop}
 use Rattle.generations.proofs.generations.Statement.{statement}
 use Rattle.generations.proofs.generations.Tie as tie
+
+-- The places that the needs come back to.
+abbrev start-of-size : tie.After-size → tie.Start
+start-of-size p = let at-any-above = p .before .before in at-any-above .before .before .before .before
+
+abbrev start-of-links : tie.After-links → tie.Start
+start-of-links p = start-of-size (p .before .before .before)
+
+abbrev size-of-visit-all : tie.After-visit-all → tie.After-size
+size-of-visit-all p =
+    let at-keep = p .before .before .before .before .before in
+    let at-links = at-keep .before .before .before .before .before in
+    at-links .before .before .before
+
+abbrev set-of-of-visit-all : tie.After-visit-all → tie.After-set-of
+set-of-of-visit-all p =
+    let at-keep = p .before .before .before .before .before in
+    let at-links = at-keep .before .before .before .before .before in
+    at-links .before
+
+abbrev write-numbers-of-slice-known3 : tie.After-slice-known3 → tie.After-write-numbers
+write-numbers-of-slice-known3 p = p .before .before
+
+abbrev visit-all-of-first-returning : tie.After-first-returning → tie.After-visit-all
+visit-all-of-first-returning p = p .before .before .before .before .before
+
+abbrev size-of-keep : tie.After-keep → tie.After-size
+size-of-keep p = let at-links = p .before .before .before .before .before in at-links .before .before .before
+
+abbrev keep-of-visit-all : tie.After-visit-all → tie.After-keep
+keep-of-visit-all p = p .before .before .before .before .before
 
 -- no label is above 25
 low : (c : tie.Else1) → above (c .before .before .before .before .before .args .labels .now) ≡ false
@@ -34,7 +65,7 @@ kept-are c =
     ap (λ (i : ℕ). take i (k .last .1 .1 .0)) part ∙ k .ensures .1
 
 linked : (c : tie.After-links) (b : Book)
-    → let start = c .before .before .before .before .before .before .before .before .before in
+    → let start = start-of-links c in
     Represents (start .args .register) b → Linked (take (c .links .result .count - 0) (c .links .result .words)) (b .sheet)
 linked c b R =
     let l = c .links in
@@ -44,8 +75,8 @@ linked c b R =
 -- the numbers
 numbers-of : (c : tie.After-marks) (b : Book)
     → let after-visit-all = c .before .before .before in
-    let after-size = after-visit-all .before .before .before .before .before .before .before .before .before .before .before .before .before in
-    let start = after-size .before .before .before .before .before .before in
+    let after-size = size-of-visit-all after-visit-all in
+    let start = start-of-size after-size in
     Represents (start .args .register) b → GenerationsAre (asked b) (start .args .labels .now)
     (numbers (chosen (c .marks .result) (after-visit-all .visit-all .last .1 .1 .0) (after-size .size .result)))
 numbers-of c b R =
@@ -53,7 +84,7 @@ numbers-of c b R =
     let after-keep = after-visit-all .before .before .before .before .before in
     let after-links = after-keep .before .before .before .before .before in
     let after-size = after-links .before .before .before in
-    let start = after-size .before .before .before .before .before .before in
+    let start = start-of-size after-size in
     let v = after-visit-all .visit-all in
     let d : List ℕ = v .last .1 .1 .0 in
     let t = v .ensures .0 (c .before .if3 .taken) in
@@ -72,7 +103,7 @@ returns c =
 returns-2 : tie.Need-returns-2
 unfolding number
 returns-2 c =
-    let a = c .before .before .before .before .before .before .before .args in
+    let a = start-of-size (c .before) .args in
     let n = c .before .size .ensures in
     refuses 12 (short-work, refl) (λ b R. (let e = n .size b R in
     work-next b (a .labels .now) (length (a .work .now)) (length (a .list .now)) (low (c .before .before)) (omega (arith, c .if2 .taken))))
@@ -85,8 +116,8 @@ unfolding number written
 returns-3 c =
     let after-marks = c .before .before .before in
     let after-visit-all = after-marks .before .before .before in
-    let else2 = after-visit-all .before .before .before .before .before .before .before .before .before .before .before .before in
-    let start = else2 .before .before .before .before .before .before .before in
+    let else2 = set-of-of-visit-all after-visit-all .before in
+    let start = start-of-size (else2 .before) in
     let a = start .args in
     let n = else2 .before .size .ensures in
     refuses 13 (short-list, refl) (λ b R. (let e = n .size b R in
@@ -99,7 +130,7 @@ write-numbers-requires c κs =
     let else4 = c .before .before .before in
     let after-marks = else4 .before .before .before in
     let after-visit-all = after-marks .before .before .before in
-    let after-size = after-visit-all .before .before .before .before .before .before .before .before .before .before .before .before .before in
+    let after-size = size-of-visit-all after-visit-all in
     let v = after-visit-all .visit-all in
     let k : length (v .last .1 .1 .0) ≡ 1024 = search needs in (
       after-size .size .ensures .small,
@@ -112,11 +143,11 @@ write-numbers-requires c κs =
 returns-4 : tie.Need-returns-4
 unfolding written
 returns-4 c =
-    let else4 = c .before .before .before .before .before .before in
+    let else4 = write-numbers-of-slice-known3 c .before .before .before .before in
     let after-marks = else4 .before .before .before in
     let after-visit-all = after-marks .before .before .before in
-    let else2 = after-visit-all .before .before .before .before .before .before .before .before .before .before .before .before in
-    let start = else2 .before .before .before .before .before .before .before in
+    let else2 = set-of-of-visit-all after-visit-all .before in
+    let start = start-of-size (else2 .before) in
     let a = start .args in
     let n = else2 .before .size .ensures in
     let d : List ℕ = after-visit-all .visit-all .last .1 .1 .0 in
@@ -128,8 +159,8 @@ returns-4 c =
 
 first-loop-requires : tie.Need-first-loop-requires
 first-loop-requires c κs =
-    let earlier = c .before .before .before .before .before .before .before .before .before .before in
-    let after-size = earlier .before .before .before .before .before .before .before .before .before .before in
+    let earlier = visit-all-of-first-returning (c .before .before) .before .before .before in
+    let after-size = size-of-keep (earlier .before .before) in
     omega (arith, c .before .before .first-returning .ensures .0, after-size .size .ensures .small)
 
 returns-5 : tie.Need-returns-5
@@ -137,10 +168,10 @@ returns-5 c =
     let at-first-loop = c .before .before .before .before in
     let after-first-returning = at-first-loop .before .before .before in
     let else3 = after-first-returning .before .before .before in
-    let after-keep = else3 .before .before .before .before .before .before .before in
+    let after-keep = keep-of-visit-all (else3 .before .before) in
     let after-links = after-keep .before .before .before .before .before in
     let after-size = after-links .before .before .before in
-    let start = after-size .before .before .before .before .before .before in
+    let start = start-of-size after-size in
     let a = start .args in
     let n = after-size .size .ensures in
     let C = after-links .before .set-of .ensures in

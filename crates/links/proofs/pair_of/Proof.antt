@@ -1,6 +1,6 @@
 -- The remainder by a label's unit is the definition. Assumes nothing.
 use borrow.Author.Needs.{needs}
-use Rattle.links.specs.Links.{linkPair}
+use Rattle.links.specs.Parts.{linkPair}
 use Rattle.links.proofs.pair_of.Statement.{statement}
 use Rattle.links.proofs.pair_of.Tie as tie
 

@@ -19,17 +19,35 @@ sub-down c = minus-fits (c .args .least) (c .fits .least)
 third-requires : tie.Need-third-requires
 third-requires c κs =
     let a = c .before in
-    ((omega arith, (omega arith, omega arith)), (wide-low (a .args .most) (a .fits .most), minus-low (a .args .least) (a .fits .least)))
+    record {
+      place = omega arith;
+      first = omega arith;
+      second = omega arith;
+      up-fits = wide-low (a .args .most) (a .fits .most);
+      down-fits = minus-low (a .args .least) (a .fits .least);
+    }
 
 third-requires-2 : tie.Need-third-requires-2
 third-requires-2 c κs =
     let a = c .before .before .before .before in
-    ((omega arith, (omega arith, omega arith)), (wide-low (a .args .most) (a .fits .most), minus-low (a .args .least) (a .fits .least)))
+    record {
+      place = omega arith;
+      first = omega arith;
+      second = omega arith;
+      up-fits = wide-low (a .args .most) (a .fits .most);
+      down-fits = minus-low (a .args .least) (a .fits .least);
+    }
 
 third-requires-3 : tie.Need-third-requires-3
 third-requires-3 c κs =
     let a = c .before .before .before .before .before .before .before in
-    ((omega arith, (omega arith, omega arith)), (wide-low (a .args .most) (a .fits .most), minus-low (a .args .least) (a .fits .least)))
+    record {
+      place = omega arith;
+      first = omega arith;
+      second = omega arith;
+      up-fits = wide-low (a .args .most) (a .fits .most);
+      down-fits = minus-low (a .args .least) (a .fits .least);
+    }
 
 returns : tie.Need-returns
 returns c =

@@ -17,9 +17,19 @@ Inv-loop work₀ n links used rows₀ code stack₀ i₀ work rows stack i =
 abbrev μ-loop : tie.MeasureT-loop
 μ-loop work₀ n links used rows₀ code stack₀ i₀ work rows stack i = length code - i
 
+-- The places that the needs come back to.
+abbrev start-of-no-operand : tie.After-no-operand Inv-loop μ-loop → tie.Start Inv-loop μ-loop
+start-of-no-operand p = let at-slice-known = p .before .before .before .before .before in at-slice-known .before
+
+abbrev start-of-item-of : tie.After-item-of Inv-loop μ-loop → tie.Start Inv-loop μ-loop
+start-of-item-of p = start-of-no-operand (p .before .before .before .before)
+
+abbrev start-of-loop-end : tie.After-loop Inv-loop μ-loop → tie.Start Inv-loop μ-loop
+start-of-loop-end p = start-of-no-operand (p .before .before)
+
 loop-holds : tie.Need-loop-holds Inv-loop μ-loop
 loop-holds c =
-    let start = c .before .before .before .before .before .before in
+    let start = start-of-no-operand c in
     let P = start .pre in
     let a = start .args in
     (coded-some (a .n) (a .links .now) (a .used .now) _ (P .4 .2), refl, refl, going-begins _ _ _ _ (P .4 .2) _ _ refl)
@@ -27,7 +37,7 @@ loop-holds c =
 step-requires : tie.Need-step-requires Inv-loop μ-loop
 step-requires c κs =
     let l = c .before .before .before .before .before .loop in
-    let P = c .before .before .before .before .before .before .before .before .before .before .before .before .pre in
+    let P = start-of-item-of (c .before .before) .pre in
     let r = going-ready _ _ _ _ (l .i) (omega arith) (l .inv .3) (sym (c .before .before .item-of .ensures)) in
     (P .0, omega (arith, l .inv .1, P .1), P .2, omega (arith, l .inv .2, P .3), r .0, r .1)
 
@@ -53,7 +63,7 @@ same-length-2 c = c .before .loop .inv .2
 returns : tie.Need-returns Inv-loop μ-loop
 returns c =
     let l = c .before .loop in
-    let a = c .before .before .before .before .before .before .before .before .args in
+    let a = start-of-loop-end c .args in
     subst (λ (j : ℕ). Going (a .n) (a .links .now) (a .used .now) (a .code .now) (l .work) (l .stack) j)
     (let e : l .i ≡ length (a .code .now) - 1 = omega arith in e) (l .inv .3)
 

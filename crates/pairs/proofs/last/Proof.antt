@@ -9,6 +9,13 @@ use Rattle.pairs.proofs.RunLaws.{ends-term}
 use Rattle.pairs.proofs.last.Statement.{statement}
 use Rattle.pairs.proofs.last.Tie as tie
 
+-- The places that the needs come back to.
+abbrev start-of-take-off : tie.After-take-off → tie.Start
+start-of-take-off p = p .before .before .before .before .before
+
+abbrev take-off-of-outcome-rows : tie.After-outcome-rows → tie.After-take-off
+take-off-of-outcome-rows p = p .before .before .before .before
+
 -- the operands taken off
 takes : (c : tie.After-take-off)
     → let start = c .before .before .before .before .before in
@@ -22,17 +29,17 @@ starts : (c : tie.After-take-off) → c .take-off .result .start ≤ 18 * treeUn
 starts c = starts-early (takes c .totals) (early c)
 
 mul-outcome-rows : tie.Need-mul-outcome-rows
-mul-outcome-rows c = omega (arith, starts (c .before), c .before .before .before .before .before .before .pre .1)
+mul-outcome-rows c = omega (arith, starts (c .before), start-of-take-off (c .before) .pre .1)
 
 sub-outcome-rows : tie.Need-sub-outcome-rows
-sub-outcome-rows c = omega (arith, starts (c .before), c .before .before .before .before .before .before .pre .1)
+sub-outcome-rows c = omega (arith, starts (c .before), start-of-take-off (c .before) .pre .1)
 
 part-outcome-rows-start : tie.Need-part-outcome-rows-start
-part-outcome-rows-start c = omega (arith, starts (c .before), c .before .before .before .before .before .before .pre .1)
+part-outcome-rows-start c = omega (arith, starts (c .before), start-of-take-off (c .before) .pre .1)
 
 returns : tie.Need-returns
 returns c =
-    let after-take-off = c .before .before .before .before .before .before in
+    let after-take-off = take-off-of-outcome-rows (c .before .before) in
     let start = after-take-off .before .before .before .before .before in
     let a = start .args in
     let P = start .pre in

@@ -9,7 +9,7 @@ use Rattle.book.specs.Book.{Book}
 use Rattle.k2.specs.Bits.{bitAt}
 use Rattle.paths.specs.Questions.{by-trees}
 use Rattle.register.specs.Representation.{Represents}
-use Rattle.rows.specs.Rows.{pairsIn}
+use Rattle.rows.specs.RowSets.{pairsIn}
 use Rattle.query.specs.Evaluation.{Lettered}
 use Rattle.query.specs.AskingLaws.{asks-short, asks-pairs}
 use Rattle.query.specs.LetterLaws.{read-lettered}
@@ -17,6 +17,22 @@ use Rattle.pairs.proofs.AnswerLaws.{pairs-few, pairs-rows}
 use borrow.Author.Needs.{needs}
 use Rattle.pairs.proofs.of_code.Statement.{statement}
 use Rattle.pairs.proofs.of_code.Tie as tie
+
+-- The places that the needs come back to.
+abbrev links-of-in-use : tie.After-in-use → tie.After-links
+links-of-in-use p = p .before .before .before .before
+
+abbrev marks-of-in-use : tie.After-in-use → tie.After-marks
+marks-of-in-use p = p .before .before
+
+abbrev start-of-marks : tie.After-marks → tie.Start
+start-of-marks p = let at-size = p .before .before .before .before .before in at-size .before .before .before
+
+abbrev links-of-run : tie.After-run → tie.After-links
+links-of-run p = let at-run-arg = p .before .before .before .before .before in at-run-arg .before .before .before .before .before
+
+abbrev in-use-of-run : tie.After-run → tie.After-in-use
+in-use-of-run p = let at-run-arg = p .before .before .before .before .before in at-run-arg .before
 
 in-words : (c : tie.After-links) → c .links .result .count ≤ length (c .links .result .words)
 in-words c = let o = c .links .ensures in omega (arith, o .few, o .long)
@@ -42,21 +58,21 @@ returns c =
     (subst (λ (i : ℕ). length (start .args .work .now) < i) (c .before .pairs-work .ensures) (c .if1 .taken))
 
 slice-aggregate-run : tie.Need-slice-aggregate-run
-slice-aggregate-run c = sym (length-take-le _ _ (in-words (c .before .before .before .before .before .before)))
+slice-aggregate-run c = sym (length-take-le _ _ (in-words (links-of-in-use (c .before .before))))
 
 slice-aggregate-run-4 : tie.Need-slice-aggregate-run-4
 slice-aggregate-run-4 c =
-    let earlier = c .before .before .before .before .before .before .before in
-    let start = earlier .before .before .before .before .before .before .before .before in
+    let earlier = marks-of-in-use (c .before .before .before .before .before) in
+    let start = start-of-marks earlier in
     sym (length-take-le _ _ (start .pre .0))
 
 returns-2 : tie.Need-returns-2
 returns-2 c =
     let after-count-pairs = c .before .before .before .before .before in
     let after-run = after-count-pairs .before .before .before .before .before in
-    let else1 = after-run .before .before .before .before .before .before .before .before .before .before .before in
+    let else1 = links-of-run after-run .before in
     let start = else1 .before .before .before .before .before in
-    let after-in-use = after-run .before .before .before .before .before .before in
+    let after-in-use = in-use-of-run after-run in
     let after-size = else1 .before .before in
     let n = after-size .size in
     let a = start .args in

@@ -10,6 +10,13 @@ use borrow.Author.Needs.{needs}
 use Rattle.pairs.proofs.operator.Statement.{statement}
 use Rattle.pairs.proofs.operator.Tie as tie
 
+-- The places that the needs come back to.
+abbrev start-of-take-off : tie.After-take-off → tie.Start
+start-of-take-off p = p .before .before .before .before .before
+
+abbrev take-off-of-bounded : tie.After-bounded → tie.After-take-off
+take-off-of-bounded p = let at-operate = p .before .before .before .before .before in at-operate .before .before .before .before
+
 -- the operands taken off
 takes : (c : tie.After-take-off)
     → let start = c .before .before .before .before .before in
@@ -23,26 +30,26 @@ starts : (c : tie.After-take-off) → c .take-off .result .start ≤ 18 * treeUn
 starts c = starts-early (takes c .totals) (early c)
 
 mul-operate : tie.Need-mul-operate
-mul-operate c = omega (arith, starts (c .before), c .before .before .before .before .before .before .pre .1)
+mul-operate c = omega (arith, starts (c .before), start-of-take-off (c .before) .pre .1)
 
 sub-operate : tie.Need-sub-operate
-sub-operate c = omega (arith, starts (c .before), c .before .before .before .before .before .before .pre .1)
+sub-operate c = omega (arith, starts (c .before), start-of-take-off (c .before) .pre .1)
 
 part-operate-start : tie.Need-part-operate-start
-part-operate-start c = omega (arith, starts (c .before), c .before .before .before .before .before .before .pre .1)
+part-operate-start c = omega (arith, starts (c .before), start-of-take-off (c .before) .pre .1)
 
 mul-operand : tie.Need-mul-operand
-mul-operand c = omega (arith, early (c .before .before .before .before .before .before .before .before .before))
+mul-operand c = omega (arith, early (take-off-of-bounded c))
 
 element-set-from-operand : tie.Need-element-set-from-operand
-element-set-from-operand c = omega (arith, early (c .before .before .before .before .before .before .before .before .before))
+element-set-from-operand c = omega (arith, early (take-off-of-bounded c))
 
 add-next : tie.Need-add-next
-add-next c = omega (arith, early (c .before .before .before .before .before .before .before .before .before))
+add-next c = omega (arith, early (take-off-of-bounded c))
 
 add-next-2 : tie.Need-add-next-2
 add-next-2 c =
-    let after-take-off = c .before .before .before .before .before .before .before .before .before in
+    let after-take-off = take-off-of-bounded c in
     let start = after-take-off .before .before .before .before .before in
     omega (arith, starts after-take-off, start .pre .1, c .bounded .ensures .0)
 

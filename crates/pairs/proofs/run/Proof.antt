@@ -8,23 +8,30 @@ use borrow.Author.Needs.{needs}
 use Rattle.pairs.proofs.run.Statement.{statement}
 use Rattle.pairs.proofs.run.Tie as tie
 
+-- The places that the needs come back to.
+abbrev start-of-evaluate : tie.After-evaluate → tie.Start
+start-of-evaluate p = let at-shared-slice-known2 = p .before .before .before .before .before in at-shared-slice-known2 .before .before .before
+
+abbrev evaluate-of-item-of : tie.After-item-of → tie.After-evaluate
+evaluate-of-item-of p = let at-work = p .before .before .before .before .before in at-work .before
+
 -- the code has a number
 some : (c : tie.Start) → 1 ≤ length (c .args .code .now)
 some c = coded-some (c .args .n) (c .args .links .now) (c .args .used .now) _ (c .pre .4 .2)
 
 sub-item-of : tie.Need-sub-item-of
-sub-item-of c = some (c .before .before .before .before .before .before .before .before .before .before .before .before)
+sub-item-of c = some (start-of-evaluate (c .before .before .before .before))
 
 mul-item-of : tie.Need-mul-item-of
-mul-item-of c = omega (arith, some (c .before .before .before .before .before .before .before .before .before .before .before .before))
+mul-item-of c = omega (arith, some (start-of-evaluate (c .before .before .before .before)))
 
 shared-slice-read-item-of : tie.Need-shared-slice-read-item-of
-shared-slice-read-item-of c = omega (arith, some (c .before .before .before .before .before .before .before .before .before .before .before .before .before))
+shared-slice-read-item-of c = omega (arith, some (start-of-evaluate (c .before .before .before .before .before)))
 
 last-requires : tie.Need-last-requires
 last-requires c κs =
-    let after-evaluate = c .before .before .before .before .before .before .before .before in
-    let start = after-evaluate .before .before .before .before .before .before .before .before in
+    let after-evaluate = evaluate-of-item-of (c .before .before) in
+    let start = start-of-evaluate after-evaluate in
     let a = start .args in
     let P = start .pre in
     let E = after-evaluate .evaluate in
@@ -37,8 +44,8 @@ last-requires c κs =
 returns : tie.Need-returns
 returns c =
     let after-item-of = c .before .before .before .before .before in
-    let after-evaluate = after-item-of .before .before .before .before .before .before in
-    let start = after-evaluate .before .before .before .before .before .before .before .before in
+    let after-evaluate = evaluate-of-item-of after-item-of in
+    let start = start-of-evaluate after-evaluate in
     let a = start .args in
     going-ends (a .n) (a .links .now) (a .used .now) _ (some start) (sym (after-item-of .item-of .ensures))
     (after-evaluate .evaluate .ensures) (c .before .before .last .ensures)

@@ -15,21 +15,34 @@ use Rattle.pairs.proofs.StepLaws.{goes-letters, goes-inverse}
 use Rattle.pairs.proofs.step.Statement.{statement}
 use Rattle.pairs.proofs.step.Tie as tie
 
+-- The places that the needs come back to.
+abbrev start-of-match-keys1 : tie.At-match-keys1 → tie.Start
+start-of-match-keys1 p = p .before .before .before .before .before
+
+abbrev start-of-letters : tie.After-letters → tie.Start
+start-of-letters p = start-of-match-keys1 (p .before .before .before)
+
+abbrev start-of-match-keys2 : tie.At-match-keys2 → tie.Start
+start-of-match-keys2 p = p .before .before .before .before .before
+
+abbrev start-of-inverse : tie.After-inverse → tie.Start
+start-of-inverse p = start-of-match-keys2 (p .before .before)
+
 -- there is room for an operand more
-room : (c : tie.After-item) → c .before .before .before .before .before .before .args .stack .count < 19
+room : (c : tie.After-item) → (start-of-match-keys1 (c .before)) .args .stack .count < 19
 room c =
-    let start = c .before .before .before .before .before .before in
+    let start = start-of-match-keys1 (c .before) in
     let o : operands (start .args .item) ≡ 0 = ap operands (c .item .given .1) in let r = start .pre .4 .room in omega arith
 
 push-requires : tie.Need-push-requires
-push-requires c κs = (room (c .before .before), c .before .before .before .before .before .before .before .before .pre .5 .slots)
+push-requires c κs = (room (c .before .before), start-of-letters c .pre .5 .slots)
 
 -- `^` has an operand
 some : (c : tie.After-enum-told)
-    → let start = c .before .before .before .before .before .before in
+    → let start = start-of-match-keys2 (c .before) in
     (1 ≤ start .args .stack .count) × (start .args .stack .count ≤ 19) × (length (start .args .stack .operands) ≡ 19)
 some c =
-    let start = c .before .before .before .before .before .before in
+    let start = start-of-match-keys2 (c .before) in
     let o : operands (start .args .item) ≡ 1 = ap operands (c .enum-told .given .1) in
     let f = start .pre .4 .found in
     (omega arith, start .pre .4 .few, start .pre .5 .slots)
@@ -40,7 +53,7 @@ inverse-requires c κs = some c
 returns : tie.Need-returns
 returns c =
     let after-item = c .before .before .before in
-    let start = after-item .before .before .before .before .before .before in
+    let start = start-of-match-keys1 (after-item .before) in
     let a = start .args in
     let q = after-item .item .given .0 in
     subst (λ (y : Item). Goes (a .n) (a .links .now) (a .used .now) y (a .work .now) (a .work .now) (a .stack) (c .push .result))
@@ -51,7 +64,7 @@ returns c =
 
 returns-2 : tie.Need-returns-2
 returns-2 c =
-    let a = c .before .before .before .before .before .before .before .args in
+    let a = start-of-inverse c .args in
     let h = some (c .before) in
     subst (λ (y : Item). Goes (a .n) (a .links .now) (a .used .now) y (a .work .now) (a .work .now) (a .stack) (c .inverse .result))
     (sym (c .before .enum-told .given .1))

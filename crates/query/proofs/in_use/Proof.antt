@@ -20,6 +20,10 @@ Inv-loop marks n records₀ i₀ records i = (i ≤ n) × (length records ≡ 16
 abbrev μ-loop : tie.MeasureT-loop
 μ-loop marks n records₀ i₀ records i = n - i
 
+-- The places that the needs come back to.
+abbrev start-of-loop : tie.At-loop Inv-loop μ-loop → tie.Start Inv-loop μ-loop
+start-of-loop p = p .before .before
+
 loop-holds : tie.Need-loop-holds Inv-loop μ-loop
 loop-holds c = (omega arith, refl, bits-none 16 ∙ sym (used-none (c .before .args .marks .now)))
 
@@ -30,7 +34,7 @@ slice-aggregate-set-bit : tie.Need-slice-aggregate-set-bit Inv-loop μ-loop
 slice-aggregate-set-bit c = sym (c .before .before .before .before .loop .inv .1)
 
 set-bit-requires : tie.Need-set-bit-requires Inv-loop μ-loop
-set-bit-requires c κs = let l = c .before .before .before .before .loop in omega (arith, l .inv .1, c .before .before .before .before .before .before .pre .0)
+set-bit-requires c κs = let l = c .before .before .before .before .loop in omega (arith, l .inv .1, start-of-loop (c .before .before .before .before) .pre .0)
 
 loop-again : tie.Need-loop-again Inv-loop μ-loop
 loop-again c =

@@ -19,13 +19,17 @@ room : (c : tie.After-next)
     let start = after-first .before .before .before in
     (c .next .given .0 .0 .end < length (start .args .code .now))
     × (after-first .first .given .0 .0 .letters + c .next .given .0 .0 .letters ≤ length (start .args .code .now))
-room c = has-room (c .before .before .before .first .given .1) (c .next .given .1) (c .before .before .before .before .before .before .pre)
+room c =
+    let at-match-keys1 = c .before .before .before .before in
+    has-room (c .before .before .before .first .given .1) (c .next .given .1) (at-match-keys1 .before .before .pre)
 
 push-requires : tie.Need-push-requires
 push-requires c κs = room (c .before .before) .0
 
 add-t10 : tie.Need-add-t10
-add-t10 c = let h = room (c .before .before .before .before .before .before .before) in omega arith
+add-t10 c =
+    let after-push = c .before .before .before .before in
+    let h = room (after-push .before .before .before) in omega arith
 
 returns-3 : tie.Need-returns-3
 returns-3 c =

@@ -8,12 +8,15 @@ returns : tie.Need-returns
 returns c = writes-none (c .enum-told .given .1)
 
 push-requires : tie.Need-push-requires
-push-requires c κs = has-place (c .before .before .before .x .given .1) (c .before .before .before .before .before .before .pre)
+push-requires c κs =
+    let at-match-keys1 = c .before .before .before .before in
+    has-place (c .before .before .before .x .given .1) (at-match-keys1 .before .before .pre)
 
 returns-2 : tie.Need-returns-2
 returns-2 c =
-    rw (c .before .before .push .ensures .0, c .before .before .push .ensures .1, c .before .before .before .letters-number .ensures)
-    (writes (c .before .before .before .before .before .before .x .given .1))
+    let after-letters-number = c .before .before .before in
+    rw (c .before .before .push .ensures .0, c .before .before .push .ensures .1, after-letters-number .letters-number .ensures)
+    (writes (after-letters-number .before .before .before .x .given .1))
 
 pub written-spec : {M : Type 1} → statement M
 written-spec = tie.close (tie.spec (λ c. search needs) (λ c. search needs) returns (λ c κs. search needs) push-requires (λ c. search needs) returns-2)

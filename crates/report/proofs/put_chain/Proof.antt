@@ -27,17 +27,19 @@ put-counted-requires c κs = omega (arith, length-counted-most (bytes "chain ") 
 loop-holds : tie.Need-loop-holds Inv-loop μ-loop
 unfolding bytes
 loop-holds c =
-    let start = c .before .before .before .before .before .before .before in
-    let p = c .before .before .put-counted in
+    let after-put-counted = c .before .before in
+    let start = after-put-counted .before .before .before .before .before in
+    let p = after-put-counted .put-counted in
     let k : length (p .last .1 .1 .0) ≡ length (now (start .args .out)) = p .kept .1 .1 .0 in
     let most = length-counted-most (bytes "chain ") (length (now (start .args .words))) (omega arith) in
     lined-none (omega (arith, p .ensures .place))
 
 loop-again : tie.Need-loop-again Inv-loop μ-loop
 loop-again c =
-    let here = c .before .before .before .before .before .before .loop in
+    let in-loop = c .before .before .before .before .before in
+    let here = in-loop .before .loop in
     let q = c .before .before .put-step in
-    lined-more (here .inv) (c .before .before .before .before .before .loop-test .taken) (q .kept .1 .0) (length-step-line _) (q .ensures)
+    lined-more (here .inv) (in-loop .loop-test .taken) (q .kept .1 .0) (length-step-line _) (q .ensures)
 
 same-length : tie.Need-same-length Inv-loop μ-loop
 same-length c = c .before .loop .inv .kept ∙ c .before .before .before .before .put-counted .kept .1 .1 .0

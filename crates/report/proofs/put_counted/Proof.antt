@@ -40,9 +40,11 @@ put-byte-requires c κs =
 returns : tie.Need-returns
 unfolding counted
 returns c =
-    let p = c .before .before .before .before .before .before .before .before .before .before .put-text in
-    let q = c .before .before .before .before .before .before .put-decimal in
-    wrote-then (wrote-then (p .ensures) (q .ensures)) (c .before .before .put-byte .ensures)
+    let after-put-byte = c .before .before in
+    let after-put-decimal = after-put-byte .before .before .before .before in
+    let p = after-put-decimal .before .before .before .before .put-text in
+    let q = after-put-decimal .put-decimal in
+    wrote-then (wrote-then (p .ensures) (q .ensures)) (after-put-byte .put-byte .ensures)
 
 pub put-counted-spec : {M : Type 1} → statement M
 put-counted-spec = tie.close (tie.spec put-text-requires put-decimal-requires put-byte-requires (λ c. search needs) returns)

@@ -28,9 +28,11 @@ put-counted-requires c κs =
 
 returns : tie.Need-returns
 returns c =
-    let w = c .before .before .before .before .before .before .before .before .before .before .args .w in
-    let p = c .before .before .before .before .before .before .before .put-decimal in
-    wrote-as (pair-line w) (wrote-then (p .ensures) (c .before .before .put-counted .ensures))
+    let after-put-counted = c .before .before in
+    let after-put-decimal = after-put-counted .before .before .before .before .before in
+    let w = after-put-decimal .before .before .before .args .w in
+    let p = after-put-decimal .put-decimal in
+    wrote-as (pair-line w) (wrote-then (p .ensures) (after-put-counted .put-counted .ensures))
 
 pub put-pair-spec : {M : Type 1} → statement M
 put-pair-spec =

@@ -27,18 +27,20 @@ put-counted-requires c κs = omega (arith, length-counted-most (bytes "pairs ") 
 loop-holds : tie.Need-loop-holds Inv-loop μ-loop
 unfolding bytes
 loop-holds c =
-    let start = c .before .before .before .before .before .before .before in
-    let p = c .before .before .put-counted in
+    let after-put-counted = c .before .before in
+    let start = after-put-counted .before .before .before .before .before in
+    let p = after-put-counted .put-counted in
     let k : length (p .last .1 .1 .0) ≡ length (now (start .args .out)) = p .kept .1 .1 .0 in
     let most = length-counted-most (bytes "pairs ") (start .args .total) (omega arith) in
     lined-none (omega (arith, p .ensures .place))
 
 loop-again : tie.Need-loop-again Inv-loop μ-loop
 loop-again c =
-    let here = c .before .before .before .before .before .before .loop in
+    let in-loop = c .before .before .before .before .before in
+    let here = in-loop .before .loop in
     let q = c .before .before .put-pair in
     let short = length-pair-line _ (c .before .before .before .before .shared-slice-known2 .given (here .i) .fits) in
-    lined-more (here .inv) (c .before .before .before .before .before .loop-test .taken) (q .kept .1 .0) short (q .ensures)
+    lined-more (here .inv) (in-loop .loop-test .taken) (q .kept .1 .0) short (q .ensures)
 
 same-length : tie.Need-same-length Inv-loop μ-loop
 same-length c = c .before .loop .inv .kept ∙ c .before .before .before .before .put-counted .kept .1 .1 .0

@@ -24,6 +24,16 @@ Inv-loop a₀ columns n list m i₀ a i =
 abbrev μ-loop : tie.MeasureT-loop
 μ-loop a₀ columns n list m i₀ a i = n - i
 
+-- The places that the needs come back to.
+abbrev occupied-of-squares : tie.After-squares Inv-loop μ-loop → tie.After-occupied Inv-loop μ-loop
+occupied-of-squares p = p .before .before .before .before .before
+
+abbrev start-of-loop : tie.At-loop Inv-loop μ-loop → tie.Start Inv-loop μ-loop
+start-of-loop p = let at-occupied = p .before .before in at-occupied .before .before .before .before
+
+abbrev start-of-loop-end : tie.After-loop Inv-loop μ-loop → tie.Start Inv-loop μ-loop
+start-of-loop-end p = start-of-loop (p .before)
+
 occupied-requires : tie.Need-occupied-requires Inv-loop μ-loop
 occupied-requires c κs = (omega arith, omega arith, refl)
 
@@ -35,7 +45,7 @@ squares-requires c κs = (omega arith, omega arith)
 
 product-row-requires : tie.Need-product-row-requires Inv-loop μ-loop
 product-row-requires c κs =
-    let o = c .before .before .before .before .before .before .before .before .before .occupied in
+    let o = occupied-of-squares (c .before .before .before .before) .occupied in
     (omega arith, omega arith, c .before .before .before .before .squares .ensures .0, omega arith, o .kept .1 .1 .0, o .ensures .0, refl)
 
 store-row-requires : tie.Need-store-row-requires Inv-loop μ-loop
@@ -44,7 +54,7 @@ store-row-requires c κs = (c .before .before .before .product-row .kept .1 .1 .
 loop-again : tie.Need-loop-again Inv-loop μ-loop
 loop-again c =
     let at-loop = c .before .before .before .before in
-    let start = at-loop .before .before .before .before .before .before in
+    let start = start-of-loop at-loop in
     let l = at-loop .loop in
     let a = start .args in
     let o = at-loop .before .before .occupied in
@@ -72,7 +82,7 @@ loop-again c =
 returns : tie.Need-returns Inv-loop μ-loop
 returns c =
     let l = c .before .loop in
-    let a = c .before .before .before .before .before .before .before .args in
+    let a = start-of-loop-end c .args in
     let e : l .i ≡ a .n = omega arith in
     λ x y X Y ex ey. l .inv .2 x y X Y ex ey ∙ rw e (ap flat (to-all (a .n) (product (a .n) x y) x (product-set (a .n) x y X Y) X))
 

@@ -19,6 +19,10 @@ Inv-loop rows n list₀ m₀ i₀ list m i = (i ≤ n) × (m ≤ i) × (length l
 abbrev μ-loop : tie.MeasureT-loop
 μ-loop rows n list₀ m₀ i₀ list m i = n - i
 
+-- The places that the needs come back to.
+abbrev start-of-squares : tie.After-squares Inv-loop μ-loop → tie.Start Inv-loop μ-loop
+start-of-squares p = p .before .before .before .before .before
+
 loop-holds : tie.Need-loop-holds Inv-loop μ-loop
 loop-holds c = (omega arith, omega arith, refl, occupied-none _ _, λ t h. absurd (omega arith))
 
@@ -29,7 +33,7 @@ loop-again : tie.Need-loop-again Inv-loop μ-loop
 loop-again c =
     let l = c .before .before .before .loop in
     let s = c .before .squares in
-    let f = bitAt (c .before .before .before .before .before .before .args .rows .now) in
+    let f = bitAt (start-of-squares (c .before) .args .rows .now) in
     ⊎-elim
     (λ w.
     let v : ℕ = s .result * 1024 + l .i in

@@ -23,6 +23,13 @@ Inv-loop a i mask columns list m row₀ t₀ row t =
 abbrev μ-loop : tie.MeasureT-loop
 μ-loop a i mask columns list m row₀ t₀ row t = m - t
 
+-- The places that the needs come back to.
+abbrev start-of-loop : tie.At-loop Inv-loop μ-loop → tie.Start Inv-loop μ-loop
+start-of-loop p = p .before .before .before .before .before
+
+abbrev start-of-loop-end : tie.After-loop Inv-loop μ-loop → tie.Start Inv-loop μ-loop
+start-of-loop-end p = start-of-loop (p .before)
+
 loop-holds : tie.Need-loop-holds Inv-loop μ-loop
 loop-holds c =
     let a = c .before .before .before .before .args in
@@ -30,7 +37,7 @@ loop-holds c =
 
 serves-requires : tie.Need-serves-requires Inv-loop μ-loop
 serves-requires c κs =
-    let a = c .before .before .before .before .before .before .before .before .args in (
+    let a = start-of-loop (c .before .before .before) .args in (
       omega arith,
       omega arith,
       omega arith,
@@ -42,7 +49,7 @@ serves-requires c κs =
 loop-again : tie.Need-loop-again Inv-loop μ-loop
 loop-again c =
     let l = c .before .before .before .loop in
-    let a = c .before .before .before .before .before .before .before .before .args in
+    let a = start-of-loop (c .before .before .before) .args in
     let f = bitAt (a .a .now) in
     let g = bitAt (a .columns .now) in
     let R : ℕ → ℕ → ℕ = λ n. rowAt n (a .m) (a .list .now) in
@@ -83,7 +90,7 @@ loop-again c =
 returns : tie.Need-returns Inv-loop μ-loop
 returns c =
     let l = c .before .loop in
-    let a = c .before .before .before .before .before .before .args in
+    let a = start-of-loop-end c .args in
     let e : l .t ≡ a .m = omega arith in
     λ n g o k z. l .inv .2 n g o k z ∙ ap (λ (b : ℕ). below b (served (bitAt (a .a .now)) (bitAt (a .columns .now)) (a .i)))
     (ap (rowAt n (a .m) (a .list .now)) e ∙ row-end n (a .m) (a .list .now))

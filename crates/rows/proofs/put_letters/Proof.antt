@@ -13,8 +13,9 @@ use Rattle.k2.specs.Bits.{digit, bitAt}
 use Rattle.k2.specs.BitLaws.{Bits, bit-lt}
 use Rattle.k2.specs.PairSets.{Cells, union}
 use Rattle.bits.specs.BitSets.{put}
-use Rattle.rows.specs.Rows.{flat, crossedWords}
-use Rattle.links.specs.Links.{linkPair}
+use Rattle.rows.specs.Rows.{flat}
+use Rattle.rows.specs.RowSets.{crossedWords}
+use Rattle.links.specs.Parts.{linkPair}
 use Rattle.rows.specs.RowLaws.{crossed-all}
 use Rattle.rows.proofs.PutLaws.{lettersOf, crossing, letters-out, crossed-forward, crossed-against, crossed-is, crossed-start}
 use Rattle.rows.proofs.put_letters.Statement.{statement}
@@ -27,6 +28,19 @@ Inv-loop words forward against rows₀ i₀ rows i =
 
 abbrev μ-loop : tie.MeasureT-loop
 μ-loop words forward against rows₀ i₀ rows i = length words - i
+
+-- The places that the needs come back to.
+abbrev loop-of-has-label : tie.After-has-label Inv-loop μ-loop → tie.At-loop Inv-loop μ-loop
+loop-of-has-label p = p .before .before .before .before .before
+
+abbrev start-of-has-label : tie.After-has-label Inv-loop μ-loop → tie.Start Inv-loop μ-loop
+start-of-has-label p = let at-loop = p .before .before .before .before .before in at-loop .before .before .before
+
+abbrev loop-of-has-label2 : tie.After-has-label2 Inv-loop μ-loop → tie.At-loop Inv-loop μ-loop
+loop-of-has-label2 p = loop-of-has-label (p .before .before)
+
+abbrev start-of-has-label2 : tie.After-has-label2 Inv-loop μ-loop → tie.Start Inv-loop μ-loop
+start-of-has-label2 p = start-of-has-label (p .before .before)
 
 loop-holds : tie.Need-loop-holds Inv-loop μ-loop
 loop-holds c = (omega arith, refl, λ x e. e ∙ ap flat (sym (crossed-start x _ _)))
@@ -51,14 +65,14 @@ Held words forward against rows₀ rows j i =
 
 -- the word's pair is put in forward
 forward : (c : tie.Joined1 Inv-loop μ-loop)
-    → let l = c .before .before .before .before .before .before .loop in
-    let a = c .before .before .before .before .before .before .before .before .before .args in
+    → let l = loop-of-has-label (c .before) .loop in
+    let a = start-of-has-label (c .before) .args in
     (length (c .if1 .rows) ≡ length (a .rows .now))
     × Held (a .words .now) (a .forward) (a .against) (a .rows .now) (c .if1 .rows) (l .i + 1) (l .i)
 unfolding linkPair
 forward c =
-    let l = c .before .before .before .before .before .before .loop in
-    let a = c .before .before .before .before .before .before .before .before .before .args in
+    let l = loop-of-has-label (c .before) .loop in
+    let a = start-of-has-label (c .before) .args in
     let ws = a .words .now in
     let qs = lettersOf (a .against) (take (l .i) ws) in
     let p = c .before .before .pair-of in
@@ -90,8 +104,8 @@ set-bit-requires-2 c κs = omega (arith, forward (c .before .before .before) .0)
 loop-again : tie.Need-loop-again Inv-loop μ-loop
 unfolding linkPair
 loop-again c =
-    let l = c .before .before .before .before .before .before .before .before .loop in
-    let a = c .before .before .before .before .before .before .before .before .before .before .before .args in
+    let l = loop-of-has-label2 (c .before) .loop in
+    let a = start-of-has-label2 (c .before) .args in
     let ws = a .words .now in
     let ps = lettersOf (a .forward) (take (l .i + 1) ws) in
     let joined1 = c .before .before in

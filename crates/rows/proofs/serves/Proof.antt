@@ -33,6 +33,16 @@ Inv-search a i b j common found₀ s₀ found s =
 abbrev μ-search : tie.MeasureT-search
 μ-search a i b j common found₀ s₀ found s = 16 - s
 
+-- The places that the needs come back to.
+abbrev search-of-loop : tie.At-loop Inv-loop μ-loop Inv-search μ-search → tie.At-search Inv-loop μ-loop Inv-search μ-search
+search-of-loop p = p .before .before .before .before .before
+
+abbrev start-of-loop : tie.At-loop Inv-loop μ-loop Inv-search μ-search → tie.Start Inv-loop μ-loop Inv-search μ-search
+start-of-loop p = let at-search = p .before .before .before .before .before in at-search .before
+
+abbrev loop-of-then2 : tie.Then2 Inv-loop μ-loop Inv-search μ-search → tie.At-loop Inv-loop μ-loop Inv-search μ-search
+loop-of-then2 p = p .before .before
+
 cast-s : tie.Need-cast-s Inv-loop μ-loop Inv-search μ-search
 cast-s c = omega (arith, trailing-le 32 (c .args .common))
 
@@ -84,7 +94,7 @@ loop-holds c =
 
 -- the next record of row i, and that those before it do not serve
 next : (c : tie.In-loop Inv-loop μ-loop Inv-search μ-search)
-    → let at-search = c .before .before .before .before .before .before in
+    → let at-search = search-of-loop (c .before) in
     let a = at-search .before .args in
     let l = c .before .loop in
     let word = getD (a .a .now) (a .i * 16 + at-search .search .s) 0 in
@@ -93,7 +103,7 @@ next : (c : tie.In-loop Inv-loop μ-loop Inv-search μ-search)
     → meets (bitAt (a .a .now)) (bitAt (a .b .now)) (a .i) (a .j) m ≡ 0)
     × (l .rest / 2 ^ trailingZeros 64 (l .rest) / 2 ≡ word / 2 ^ (l .k + trailingZeros 64 (l .rest) + 1))
 next c =
-    let at-search = c .before .before .before .before .before .before in
+    let at-search = search-of-loop (c .before) in
     let a = at-search .before .args in
     let l = c .before .loop in
     let f = c .before .before .before .before .shared-slice-known .given (a .i * 16 + at-search .search .s) .fits in
@@ -124,8 +134,8 @@ loop-again : tie.Need-loop-again Inv-loop μ-loop Inv-search μ-search
 unfolding digit
 loop-again c =
     let l = c .before .before .loop in
-    let S = c .before .before .before .before .before .before .before .search in
-    let a = c .before .before .before .before .before .before .before .before .args in
+    let S = search-of-loop (c .before .before) .search in
+    let a = start-of-loop (c .before .before) .args in
     let t = trailingZeros 64 (l .rest) in
     let N = next (c .before) in
     let e : S .s * 64 + (l .k + t + 1) ≡ S .s * 64 + (l .k + t) + 1 = omega arith in
@@ -168,7 +178,7 @@ returns c =
 returns-2 : tie.Need-returns-2 Inv-loop μ-loop Inv-search μ-search
 unfolding digit served
 returns-2 c =
-    let in-search = c .before .before .before .before .before .before in
+    let in-search = loop-of-then2 c .before .before .before .before in
     let S = in-search .before .search in
     let l = c .before .before .loop in
     let a = in-search .before .before .args in

@@ -23,6 +23,10 @@ Inv-loop rows₀ records i₀ rows i =
 abbrev μ-loop : tie.MeasureT-loop
 μ-loop rows₀ records i₀ rows i = 1024 - i
 
+-- The places that the needs come back to.
+abbrev start-of-bit : tie.After-bit Inv-loop μ-loop → tie.Start Inv-loop μ-loop
+start-of-bit p = p .before .before .before .before .before
+
 loop-holds : tie.Need-loop-holds Inv-loop μ-loop
 loop-holds c = (omega arith, refl, λ x e. e ∙ ap flat (sym (diagonal-none x _)))
 
@@ -32,7 +36,7 @@ bit-requires c κs = tt
 loop-again : tie.Need-loop-again Inv-loop μ-loop
 loop-again c =
     let l = c .before .before .before .loop in
-    let a = c .before .before .before .before .before .before .args in
+    let a = start-of-bit (c .before) .args in
     let f = bitAt (a .records .now) in
     let r = c .before .bit .ensures in
     ⊎-elim

@@ -10,7 +10,7 @@ use borrow.Author.Count.{below-more}
 use lib.ListN.{length}
 use Rattle.k2.specs.Bits.{bitAt}
 use Rattle.bits.specs.BitSets.{Gap, Next}
-use Rattle.rows.specs.Rows.{RowsOf}
+use Rattle.rows.specs.RowSets.{RowsOf}
 use Rattle.rows.proofs.PutLaws.{rows-of, rows-in}
 use Rattle.rows.proofs.within.Statement.{statement}
 use Rattle.rows.proofs.within.Tie as tie

@@ -30,6 +30,10 @@ Inv-loop rows n out₀ t₀ q₀ out t q =
 abbrev μ-loop : tie.MeasureT-loop
 μ-loop rows n out₀ t₀ q₀ out t q = n * 16 - q
 
+-- The places that the needs come back to.
+abbrev start-of-loop2 : tie.At-loop2 Inv-loop2 μ-loop2 Inv-loop μ-loop → tie.Start Inv-loop2 μ-loop2 Inv-loop μ-loop
+start-of-loop2 p = p .before .before .before .before
+
 loop-holds : tie.Need-loop-holds Inv-loop2 μ-loop2 Inv-loop μ-loop
 unfolding places
 loop-holds c = (omega arith, omega arith, refl, refl, refl)
@@ -69,7 +73,7 @@ returns : tie.Need-returns Inv-loop2 μ-loop2 Inv-loop μ-loop
 returns c =
     let l = c .before .before .before .before .before .loop in
     let i = c .before .before .loop2 in
-    let b = c .before .before .before .before .before .before .args in
+    let b = start-of-loop2 (c .before .before) .args in
     let f = bitAt (b .rows .now) in
     let r = places-first f (i .p) (b .n * 1024) (omega (arith, i .inv .1, l .inv .0)) in
     let h : length (places f (i .p)) ≡ length (b .out .now) = omega (arith, i .inv .3, i .inv .4, i .inv .5, l .inv .2, c .if1 .taken) in
@@ -102,7 +106,7 @@ loop2-again c =
     let l = c .before .before .before .before .before .loop in
     let i = c .before .before .loop2 in
     let f = found (c .before) in
-    let L = places (bitAt (c .before .before .before .before .before .before .args .rows .now)) (i .p) in
+    let L = places (bitAt (start-of-loop2 (c .before .before) .args .rows .now)) (i .p) in
     let h : length L < length (l .out) = omega (arith, i .inv .5, i .inv .4, c .if1 .left) in (
       omega (arith, i .inv .0),
       omega (arith, f .0),

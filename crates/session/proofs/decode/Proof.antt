@@ -58,8 +58,9 @@ returns-3 c = rw (c .called2 .ensures, c .before .number16 .ensures) (by-shape (
 returns-4 : tie.Need-returns-4
 unfolding taken
 returns-4 c =
+    let at-match-keys3 = c .before .before .before .before .before in
     rw (c .called3 .ensures, c .before .before .number162 .ensures, c .before .number163 .ensures)
-    (by-shape (c .before .before .before .before .before .before) (c .before .before .before .before .enum-told3 .given .1))
+    (by-shape (at-match-keys3 .before) (c .before .before .before .before .enum-told3 .given .1))
 
 returns-5 : tie.Need-returns-5
 unfolding says taken

@@ -19,7 +19,9 @@ use Rattle.session.proofs.frame.Tie as tie
 
 -- the start, from where the frame is decoded
 abbrev start : tie.After-decode → tie.Start
-start c = c .before .before .before .before .before .before
+start c =
+    let after-shared-slice-known = c .before .before .before .before .before in
+    after-shared-slice-known .before
 
 -- what the frame promises, if it is decoded as d and what d says is done
 framing : (c : tie.After-decode) {l′ out′ : List ℕ} {r : Framed} {d : Decoded} → c .decode .result ≡ d
@@ -64,15 +66,18 @@ returns-3 c =
 returns-4 : tie.Need-returns-4
 unfolding says
 returns-4 c =
-    let asked = c .before .before .before .before .before .before in
+    let after-work = c .before .before .before .before .before in
+    let asked = after-work .before in
     let told = asked .before .before .before .before in
     framing (told .before .before) (told .enum-told .given .1) (asked .ask-pairs .ensures)
 
 returns-5 : tie.Need-returns-5
 unfolding says
 returns-5 c =
-    let asked = c .before .before .before .before .before .before in
-    let told = asked .before .before .before .before .before .before in
+    let after-work2 = c .before .before .before .before .before in
+    let asked = after-work2 .before in
+    let after-known-told3 = asked .before .before .before .before .before in
+    let told = after-known-told3 .before in
     let s = start (told .before .before) .args in
     framing (told .before .before) (told .decoded3 .given .1) (part-turns (s .state) _ _ _ _ _ _ _ _ (now (s .body)) (asked .ask-chain .ensures))
 

@@ -15,7 +15,8 @@ returns c =
 returns-2 : tie.Need-returns-2
 unfolding number
 returns-2 c =
-    let start = c .before .before .before .before .before .before .before in
+    let else1 = c .before .before .before .before in
+    let start = else1 .before .before .before in
     let s = start .args in
     let none = start .pre .0 in
     λ work l enough. no-frame work (s .state) (now (s .input)) l (now (s .out)) _ _ _ enough none (c .before .before .put-refused .ensures)

@@ -110,55 +110,91 @@ outs c = whole c ∙ at-loop c .loop .inv .same-out
 
 add-read : tie.Need-add-read Inv-loop μ-loop
 add-read c =
-    let turn = c .before .before .before .before .before .before .before .before in
+    let after-list = c .before .before .before .before .before in
+    let turn = after-list .before .before .before in
     let h = inside turn in
     let g = start (at-loop turn) .good in
     omega (arith, h, g)
 
 add-written : tie.Need-add-written Inv-loop μ-loop
 add-written c =
-    let turn = c .before .before .before .before .before .before .before .before .before in
+    let after-next = c .before .before in
+    let after-list = after-next .before .before .before .before in
+    let turn = after-list .before .before .before in
     let h = within turn in
     let g = start (at-loop turn) .good in
     let e = at-loop turn .loop .inv .same-out in
     omega (arith, h, g, e)
 
 same-length : tie.Need-same-length Inv-loop μ-loop
-same-length c = works (c .before .before .before .before .before .before .before .before .before .before .before)
+same-length c =
+    let after-next = c .before .before .before .before in
+    let after-list = after-next .before .before .before .before in
+    works (after-list .before .before .before)
 
 same-length-2 : tie.Need-same-length-2 Inv-loop μ-loop
-same-length-2 c = lists (c .before .before .before .before .before .before .before .before .before .before .before)
+same-length-2 c =
+    let after-next = c .before .before .before .before in
+    let after-list = after-next .before .before .before .before in
+    lists (after-list .before .before .before)
 
 same-length-3 : tie.Need-same-length-3 Inv-loop μ-loop
-same-length-3 c = outs (c .before .before .before .before .before .before .before .before .before .before .before)
+same-length-3 c =
+    let after-next = c .before .before .before .before in
+    let after-list = after-next .before .before .before .before in
+    outs (after-list .before .before .before)
 
 returns : tie.Need-returns Inv-loop μ-loop
 returns c =
-    let turn = c .before .before .before .before .before .before .before .before .before .before .before in
+    let after-next = c .before .before .before .before in
+    let after-list = after-next .before .before .before .before in
+    let turn = after-list .before .before .before in
     let l = at-loop turn .loop in
     leads-done _ (l .out) (l .read) (l .written) (l .inv .leads) (turned turn) (l .inv .within) (not-true _ (c .if1 .taken))
 
 same-length-4 : tie.Need-same-length-4 Inv-loop μ-loop
-same-length-4 c = works (c .before .before .before .before .before .before .before .before .before .before .before .before .before)
+same-length-4 c =
+    let else1 = c .before .before in
+    let after-next = else1 .before .before .before .before in
+    let after-list = after-next .before .before .before .before in
+    works (after-list .before .before .before)
 
 same-length-5 : tie.Need-same-length-5 Inv-loop μ-loop
-same-length-5 c = lists (c .before .before .before .before .before .before .before .before .before .before .before .before .before)
+same-length-5 c =
+    let else1 = c .before .before in
+    let after-next = else1 .before .before .before .before in
+    let after-list = after-next .before .before .before .before in
+    lists (after-list .before .before .before)
 
 same-length-6 : tie.Need-same-length-6 Inv-loop μ-loop
-same-length-6 c = outs (c .before .before .before .before .before .before .before .before .before .before .before .before .before)
+same-length-6 c =
+    let else1 = c .before .before in
+    let after-next = else1 .before .before .before .before in
+    let after-list = after-next .before .before .before .before in
+    outs (after-list .before .before .before)
 
 returns-2 : tie.Need-returns-2 Inv-loop μ-loop
 returns-2 c =
-    let turn = c .before .before .before .before .before .before .before .before .before .before .before .before .before in
+    let else1 = c .before .before in
+    let after-next = else1 .before .before .before .before in
+    let after-list = after-next .before .before .before .before in
+    let turn = after-list .before .before .before in
     let l = at-loop turn .loop in
-    leads-full _ (l .out) (l .read) (l .written) (l .inv .leads) (turned turn) (l .inv .within) (not-false _ (c .before .before .if1 .left)) (omega arith)
+    leads-full _ (l .out) (l .read) (l .written) (l .inv .leads) (turned turn) (l .inv .within) (not-false _ (else1 .if1 .left)) (omega arith)
 
 loop-less : tie.Need-loop-less Inv-loop μ-loop
-loop-less c = let h = inside (c .before .before .before .before .before .before .before .before .before .before .before .before .before) in omega (arith, h)
+loop-less c =
+    let else1 = c .before .before in
+    let after-next = else1 .before .before .before .before in
+    let after-list = after-next .before .before .before .before in
+    let h = inside (after-list .before .before .before) in omega (arith, h)
 
 loop-again : tie.Need-loop-again Inv-loop μ-loop
 loop-again c =
-    let turn = c .before .before .before .before .before .before .before .before .before .before .before .before .before in
+    let else1 = c .before .before in
+    let after-next = else1 .before .before .before .before in
+    let after-list = after-next .before .before .before .before in
+    let turn = after-list .before .before .before in
     let l = at-loop turn .loop in
     let h = within turn in
     let e = whole turn in

@@ -26,7 +26,8 @@ facts : (c : tie.Else2)
     → let start = c .before .before .before .before .before .before .before in
     (4 ≤ c .before .front .result) × (c .before .front .result ≤ length (now (start .args .input)))
 facts c =
-    let start = c .before .before .before .before .before .before .before in
+    let else1 = c .before .before in
+    let start = else1 .before .before .before .before .before in
     whole-long (now (start .args .input)) (c .before .front .result) (c .before .front .ensures) (omega arith)
 
 sub-frame : tie.Need-sub-frame
@@ -40,10 +41,12 @@ part-frame-end c = omega (arith, facts (c .before))
 
 returns-3 : tie.Need-returns-3
 returns-3 c =
-    let after-frame = c .before .before .before .before .before .before .before in
+    let after-list = c .before .before .before .before in
+    let after-frame = after-list .before .before .before in
     let after-number16 = after-frame .before .before .before .before .before in
     let after-front = after-number16 .before .before in
-    let start = after-front .before .before .before .before .before .before in
+    let after-shared-slice-known = after-front .before .before .before .before .before in
+    let start = after-shared-slice-known .before in
     let s = start .args in
     let f = after-frame .frame in
     let enough : room (length (now (s .list))) ≤ length (now (s .out)) = omega (arith, after-front .before .if1 .left) in

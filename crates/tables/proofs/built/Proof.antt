@@ -24,6 +24,22 @@ Inv-loop numbers against follow₀ pred₀ enter₀ s₀ i₀ follow pred enter 
 abbrev μ-loop : tie.MeasureT-loop
 μ-loop numbers against follow₀ pred₀ enter₀ s₀ i₀ follow pred enter s i = length numbers - i
 
+-- The places that the needs come back to.
+abbrev start-of-loop : tie.At-loop Inv-loop μ-loop → tie.Start Inv-loop μ-loop
+start-of-loop p = p .before .before .before .before .before
+
+abbrev step-of-slice-known6 : tie.After-slice-known6 Inv-loop μ-loop → tie.After-step Inv-loop μ-loop
+step-of-slice-known6 p = let at-follow = p .before .before .before .before .before in at-follow .before
+
+abbrev loop-of-step : tie.After-step Inv-loop μ-loop → tie.At-loop Inv-loop μ-loop
+loop-of-step p = let at-in-loop = p .before .before .before .before .before in at-in-loop .before
+
+abbrev start-of-loop-end : tie.After-loop Inv-loop μ-loop → tie.Start Inv-loop μ-loop
+start-of-loop-end p = start-of-loop (p .before)
+
+abbrev inverted-of-slice-known9 : tie.After-slice-known9 Inv-loop μ-loop → tie.After-inverted Inv-loop μ-loop
+inverted-of-slice-known9 p = let at-follow2 = p .before .before .before .before .before in at-follow2 .before
+
 loop-holds : tie.Need-loop-holds Inv-loop μ-loop
 loop-holds c =
     let p = c .before .before .before .before .pre in
@@ -31,10 +47,11 @@ loop-holds c =
 
 step-requires : tie.Need-step-requires Inv-loop μ-loop
 step-requires c κs =
-    let start = c .before .before .before .before .before .before .before .before .before .before in
+    let at-loop = c .before .before .before .before .before in
+    let start = start-of-loop at-loop in
     let p = start .pre in
     let s = start .args .numbers .now in
-    let l = c .before .before .before .before .before .loop in (
+    let l = at-loop .loop in (
       l .inv .1,
       l .inv .2,
       l .inv .3,
@@ -43,8 +60,8 @@ step-requires c κs =
 
 loop-again : tie.Need-loop-again Inv-loop μ-loop
 loop-again c =
-    let after-step = c .before .before .before .before .before .before in
-    let at-loop = after-step .before .before .before .before .before .before in
+    let after-step = step-of-slice-known6 c in
+    let at-loop = loop-of-step after-step in
     let start = at-loop .before .before .before .before .before in
     let s = start .args .numbers .now in
     let l = at-loop .loop in
@@ -59,23 +76,24 @@ loop-again c =
 -- one part waits
 alone : (c : tie.After-loop Inv-loop μ-loop)
     → let l = c .before .loop in
-    (text : List ℕ) (e : Expr) → InLimits text e → c .before .before .before .before .before .before .args .numbers .now ≡ code e
+    (text : List ℕ) (e : Expr) → InLimits text e → (start-of-loop-end c) .args .numbers .now ≡ code e
     → Alone (build (l .follow) (l .pred) (l .enter) (l .s)) (value parts e)
 alone c text e L q =
     let l = c .before .loop in
-    let s = c .before .before .before .before .before .before .args .numbers .now in
+    let s = start-of-loop-end c .args .numbers .now in
     at-end (rw (drop-of-length-le s (let z : length s ≤ l .i = omega arith in z)) at (l .inv .4 text e L q))
 
 inverted-requires : tie.Need-inverted-requires Inv-loop μ-loop
 inverted-requires c κs =
-    let p = c .before .before .before .before .before .before .before .before .before .before .pre in
-    let l = c .before .before .before .before .before .loop in
-    let z = alone-top (alone (c .before .before .before .before) (p .6 .0) (p .6 .1) (p .6 .2) (p .6 .3)) in
+    let after-loop = c .before .before .before .before in
+    let p = start-of-loop-end after-loop .pre in
+    let l = after-loop .before .loop in
+    let z = alone-top (alone after-loop (p .6 .0) (p .6 .1) (p .6 .2) (p .6 .3)) in
     (l .inv .1, l .inv .2, l .inv .3, z .0, z .1)
 
 returns : tie.Need-returns Inv-loop μ-loop
 returns c =
-    let after-inverted = c .before .before .before .before .before .before in
+    let after-inverted = inverted-of-slice-known9 c in
     let then1 = after-inverted .before .before .before .before in
     λ text e L q. let A = alone (then1 .before) text e L q in
     rw (then1 .if1 .taken) (unfold value in (A .0, after-inverted .inverted .ensures _ _ _ (A .1)))

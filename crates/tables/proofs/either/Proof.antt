@@ -8,9 +8,13 @@ use Rattle.tables.proofs.BinaryLaws.{holds-alternative}
 use Rattle.tables.proofs.either.Statement.{statement}
 use Rattle.tables.proofs.either.Tie as tie
 
+-- The places that the needs come back to.
+abbrev start-of-r8 : tie.After-r8 → tie.Start
+start-of-r8 p = let at-r3 = p .before .before .before .before .before in at-r3 .before .before .before
+
 returns : tie.Need-returns
 returns c =
-    let s = c .before .before .before .before .before .before .before .before .args .s in
+    let s = start-of-r8 c .args .s in
     let k-first : length (s .first) ≡ 19 = search needs in
     let k-last : length (s .last) ≡ 19 = search needs in
     let k-own : length (s .own) ≡ 19 = search needs in

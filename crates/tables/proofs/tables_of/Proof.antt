@@ -8,6 +8,10 @@ use Rattle.tables.proofs.RunLaws.{masked, masked-sense}
 use Rattle.tables.proofs.tables_of.Statement.{statement}
 use Rattle.tables.proofs.tables_of.Tie as tie
 
+-- The places that the needs come back to.
+abbrev built-of-with-edges : tie.After-with-edges → tie.After-built
+built-of-with-edges p = let at-enter2 = p .before .before .before .before .before in at-enter2 .before .before .before
+
 built-requires : tie.Need-built-requires
 built-requires c κs =
     let p = c .before .before .before .before .pre in
@@ -16,7 +20,7 @@ built-requires c κs =
 
 returns : tie.Need-returns
 returns c =
-    let after-built = c .before .before .before .before .before .before .before .before .before in
+    let after-built = built-of-with-edges (c .before) in
     let start = after-built .before .before .before .before .before in
     let b = after-built .built in
     λ text e L q. let A = b .ensures text e L q in

@@ -49,9 +49,14 @@ visit-Inv-loop links index y depths₀ known depth₀ cursor₀ depths depth cur
 abbrev visit-μ-loop : visit-lts.MeasureT-loop
 visit-μ-loop links index y depths₀ known depth₀ cursor₀ depths depth cursor = cursor
 
+-- The place that the needs come back to.
+abbrev start-of-loop : (t : ℕ) → visit-lts.At-loop (visit-calls t) (visit-at t) visit.Post visit-Inv-loop visit-μ-loop
+    → visit-lts.Start (visit-calls t) (visit-at t) visit.Post visit-Inv-loop visit-μ-loop
+start-of-loop t p = let else1 = p .before .before in else1 .before .before .before .before .before
+
 -- the invariant, of the depths at entry
 looked : (t : ℕ) (c : visit-lts.At-loop (visit-calls t) (visit-at t) visit.Post visit-Inv-loop visit-μ-loop)
-    → let start = c .before .before .before .before .before .before .before in
+    → let start = start-of-loop t c in
     Looking (start .args .links .now) (start .args .y) (start .args .depths .now) (c .loop .depths) (c .loop .depth) (c .loop .cursor)
 looked t c = looking-back (c .before .before .if1 .left) (c .loop .inv)
 
@@ -79,17 +84,18 @@ visit-first-arc-requires t c κs = let w = c .before .before .before .before .be
 
 visit-loop-holds : (t : ℕ) → visit-lts.Need-loop-holds (visit-calls t) (visit-at t) visit.Post visit-Inv-loop visit-μ-loop
 visit-loop-holds t c =
-    let start = c .before .before .before .before .before .before in
+    let else1 = c .before in
+    let start = else1 .before .before .before .before .before in
     let w = start .pre .1 in
     let a = start .args in
-    let e = c .before .if1 .left in
+    let e = else1 .if1 .left in
     rw (c .first-arc .ensures) (back-looking e (looking-begins (a .links .now) (a .index .now) (w .4) (a .y) (a .depths .now) (w .2) (w .3) e (w .5)))
 
 visit-sub-j : (t : ℕ) → visit-lts.Need-sub-j (visit-calls t) (visit-at t) visit.Post visit-Inv-loop visit-μ-loop
 visit-sub-j t c = omega (arith, c .loop-test .taken)
 
 visit-mul-from : (t : ℕ) → visit-lts.Need-mul-from (visit-calls t) (visit-at t) visit.Post visit-Inv-loop visit-μ-loop
-visit-mul-from t c = let L = looked t (c .before) in omega (arith, L .cursor .0, c .before .before .before .before .before .before .before .before .pre .1 .0)
+visit-mul-from t c = let L = looked t (c .before) in omega (arith, L .cursor .0, start-of-loop t (c .before) .pre .1 .0)
 
 visit-shared-slice-read-from : (t : ℕ) → visit-lts.Need-shared-slice-read-from (visit-calls t) (visit-at t) visit.Post visit-Inv-loop visit-μ-loop
 visit-shared-slice-read-from t c = let L = looked t (c .before .before) in omega (arith, L .cursor .0, c .before .loop-test .taken)
@@ -100,7 +106,7 @@ visit-cast-from t c = omega arith
 visit-visit-requires : (t : ℕ) → visit-lts.Need-visit-requires (visit-calls t) (visit-at t) visit.Post visit-Inv-loop visit-μ-loop
 visit-visit-requires t c κs =
     let at-loop = c .before .before .before in
-    let start = at-loop .before .before .before .before .before .before .before in
+    let start = start-of-loop t at-loop in
     let w = start .pre .1 in
     let L = looked t at-loop in (
       subst (λ (k : ℕ). newCount (at-loop .loop .depths) < k) (start .pre .0) (L .fewer),
@@ -131,7 +137,7 @@ visit-deeper-requires : (t : ℕ) → visit-lts.Need-deeper-requires (visit-call
 visit-deeper-requires t c κs =
     let after-visit = c .before .before .before in
     let at-loop = after-visit .before .before .before .before in
-    let start = at-loop .before .before .before .before .before .before .before in
+    let start = start-of-loop t at-loop in
     let v = after-visit .visit .ensures in
     let b = v .bounded (getD (start .args .links .now) (at-loop .loop .cursor - 1) 0 / 1024 % 1024) in
     let m = done-most (after-visit .visit .last .1 .1 .1 .0) in
@@ -139,14 +145,17 @@ visit-deeper-requires t c κs =
 
 visit-next-arc-requires : (t : ℕ) → visit-lts.Need-next-arc-requires (visit-calls t) (visit-at t) visit.Post visit-Inv-loop visit-μ-loop
 visit-next-arc-requires t c κs =
-    let w = c .before .before .before .before .before .before .before .before .before .before .before .before .before .before .before .pre .1 in
-    let L = looked t (c .before .before .before .before .before .before .before .before) in
+    let after-visit = c .before .before .before .before in
+    let at-loop = after-visit .before .before .before .before in
+    let w = start-of-loop t at-loop .pre .1 in
+    let L = looked t at-loop in
     (omega (arith, L .cursor .0, w .0, w .1), omega (arith, L .cursor .0, w .0))
 
 visit-loop-less : (t : ℕ) → visit-lts.Need-loop-less (visit-calls t) (visit-at t) visit.Post visit-Inv-loop visit-μ-loop
 visit-loop-less t c =
-    let in-loop = c .before .before .before .before .before .before .before .before in
-    let start = in-loop .before .before .before .before .before .before .before .before in
+    let after-visit = c .before .before .before .before .before in
+    let in-loop = after-visit .before .before .before in
+    let start = start-of-loop t (in-loop .before) in
     let w = start .pre .1 in
     let L = looked t (in-loop .before) in
     let h : 0 < in-loop .before .loop .cursor = omega (arith, in-loop .loop-test .taken) in
@@ -168,16 +177,16 @@ visit-loop-again t c =
     rw (c .next-arc .ensures, c .before .deeper .ensures) (back-looking e m)
 
 visit-mul-depths-2 : (t : ℕ) → visit-lts.Need-mul-depths-2 (visit-calls t) (visit-at t) visit.Post visit-Inv-loop visit-μ-loop
-visit-mul-depths-2 t c = omega (arith, c .before .before .before .before .before .before .before .before .pre .1 .2)
+visit-mul-depths-2 t c = omega (arith, start-of-loop t (c .before) .pre .1 .2)
 
 visit-slice-write-depths-2 : (t : ℕ) → visit-lts.Need-slice-write-depths-2 (visit-calls t) (visit-at t) visit.Post visit-Inv-loop visit-μ-loop
 visit-slice-write-depths-2 t c =
-    let start = c .before .before .before .before .before .before .before .before in
+    let start = start-of-loop t (c .before) in
     let L = looked t (c .before) in omega (arith, L .long, start .pre .1 .2, start .pre .1 .3)
 
 visit-same-length-2 : (t : ℕ) → visit-lts.Need-same-length-2 (visit-calls t) (visit-at t) visit.Post visit-Inv-loop visit-μ-loop
 visit-same-length-2 t c =
-    let start = c .before .before .before .before .before .before .before .before in
+    let start = start-of-loop t (c .before) in
     let L = looked t (c .before) in length-set (c .before .loop .depths) (start .args .y) (c .before .loop .depth) ∙ L .long
 
 visit-returns-3 : (t : ℕ) → visit-lts.Need-returns-3 (visit-calls t) (visit-at t) visit.Post visit-Inv-loop visit-μ-loop

@@ -9,7 +9,7 @@ use lib.Dec.{eqb}
 use lib.ListN.{length, take, length-set}
 use lib.Seq.{take-all}
 use Rattle.k2.specs.Bits.{digit}
-use Rattle.rows.specs.Rows.{labelled}
+use Rattle.rows.specs.RowSets.{labelled}
 use Rattle.generations.proofs.LabelLaws.{keep-yes, keep-no}
 use Rattle.generations.proofs.labels.keep.Statement.{statement}
 use Rattle.generations.proofs.labels.keep.Tie as tie

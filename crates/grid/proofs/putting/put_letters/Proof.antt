@@ -7,7 +7,7 @@ use native.Mathlib.Omega.{arith}
 use borrow.Author.Needs.{needs}
 use lib.ListN.{length, getD, take}
 use Rattle.k2.specs.PairSets.{Cells, union}
-use Rattle.rows.specs.Rows.{crossedWords}
+use Rattle.rows.specs.RowSets.{crossedWords}
 use Rattle.grid.specs.Grid.{first, within}
 use Rattle.rows.specs.RowLaws.{crossed-all}
 use Rattle.grid.proofs.PairLaws.{union-empty, put-more, crossed-start, crossed-next}

@@ -8,7 +8,7 @@ use lib.Dec.{eqb}
 use lib.ListN.{length}
 use Rattle.k2.specs.Bits.{digit}
 use Rattle.k2.specs.PairSets.{Cells, union, transpose}
-use Rattle.links.specs.Links.{linkPair}
+use Rattle.links.specs.Parts.{linkPair}
 use Rattle.rows.specs.RowLaws.{transpose-none, union-right}
 use Rattle.grid.specs.Grid.{first, within}
 use Rattle.grid.specs.Steps.{onePair}

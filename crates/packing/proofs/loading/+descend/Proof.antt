@@ -54,7 +54,8 @@ descend-μ-loop tree before h list sense rows₀ next m i₀ rows i = m - i
 descend-leaves-requires : (t : ℕ) → descend-lts.Need-leaves-requires (descend-calls t) (descend-at t) descend.Post descend-Inv-loop descend-μ-loop
 descend-leaves-requires t c κs =
     let start = c .before .before .before .before .before .before in
-    let w = start .pre .1 in (w .6, w .7, w .2, w .8, rw (c .before .if1 .taken) at (w .9))
+    let w = start .pre .1 in
+    (record { inside = w .1 .inside; few = w .1 .few; fit = rw (c .before .if1 .taken) at (w .1 .fit) }, w .0 .sense-is, w .2)
 
 descend-same-length : (t : ℕ) → descend-lts.Need-same-length (descend-calls t) (descend-at t) descend.Post descend-Inv-loop descend-μ-loop
 descend-same-length t c = search needs
@@ -69,8 +70,18 @@ descend-slice-aggregate-spread t c = search needs
 
 descend-spread-requires : (t : ℕ) → descend-lts.Need-spread-requires (descend-calls t) (descend-at t) descend.Post descend-Inv-loop descend-μ-loop
 descend-spread-requires t c κs =
-    let w = c .before .before .before .before .before .before .pre .1 in
-    (omega arith, w .1, w .2, w .3, w .4, w .5, w .6, w .7, refl, w .9)
+    let w = c .before .before .before .before .before .before .pre .1 in (
+      record {
+        level-least = omega arith;
+        level-most = w .0 .level-most;
+        sense-is = w .0 .sense-is;
+        short = w .0 .short;
+        places = w .0 .places;
+        counts = w .0 .counts;
+      },
+      w .1,
+      refl,
+    )
 
 descend-loop-holds : (t : ℕ) → descend-lts.Need-loop-holds (descend-calls t) (descend-at t) descend.Post descend-Inv-loop descend-μ-loop
 descend-loop-holds t c =
@@ -100,16 +111,20 @@ descend-descend-requires t c κs =
     let g : l .i + k .result ≤ length N = omega (arith, f, k .ensures .2, p .ensures .0) in (
       omega arith,
       (
-        omega arith,
-        omega arith,
-        omega arith,
-        w .3,
-        w .4,
-        w .5,
-        g,
-        k .ensures .1,
-        l .inv .1 ∙ w .8,
-        all-from (Fits (start .args .h - 1)) N (p .result) (l .i) (k .result) (k .ensures .2) (p .ensures .1),
+        record {
+          level-least = omega arith;
+          level-most = omega arith;
+          sense-is = w .0 .sense-is;
+          short = w .0 .short;
+          places = w .0 .places;
+          counts = w .0 .counts;
+        },
+        record {
+          inside = g;
+          few = k .ensures .1;
+          fit = all-from (Fits (start .args .h - 1)) N (p .result) (l .i) (k .result) (k .ensures .2) (p .ensures .1);
+        },
+        l .inv .1 ∙ w .2,
       ),
     )
 

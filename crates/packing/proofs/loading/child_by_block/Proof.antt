@@ -9,7 +9,7 @@ use Rattle.k2.specs.Bits.{bitAt, onesBelow}
 use Rattle.k2.specs.BitLaws.{bit-lt, ones-word}
 use Rattle.k2.specs.BitLaws as laws
 use Rattle.k2.specs.Trees.{childPlace}
-use Rattle.packing.proofs.LoadLaws.{child-count}
+use Rattle.packing.proofs.CountLaws.{child-count}
 use Rattle.packing.proofs.loading.child_by_block.Statement.{statement}
 use Rattle.packing.proofs.loading.child_by_block.Tie as tie
 
@@ -22,14 +22,14 @@ abbrev μ-loop : tie.MeasureT-loop
 cast-n : tie.Need-cast-n Inv-loop μ-loop
 cast-n c =
     let a = c .before .args in
-    let b = c .before .pre .3 (a .p / 64 / 4) (omega arith) in
-    omega (arith, laws.ones-le (bitAt (a .tree .now)) (bit-lt (a .tree .now)) (a .p / 64 / 4 * 256))
+    let b = c .before .pre .counts (a .p / 64 / 4) (omega arith) in
+    omega (arith, laws.ones-le (bitAt (a .tree .now)) (bit-lt (a .tree .now)) (4 * (a .p / 64 / 4) * 64))
 
 loop-holds : tie.Need-loop-holds Inv-loop μ-loop
 loop-holds c =
     let a = c .before .args in
-    let k : a .p / 64 / 4 * 256 ≡ a .p / 64 / 4 * 4 * 64 = omega arith in
-    (omega arith, omega arith, c .before .pre .3 (a .p / 64 / 4) (omega arith) ∙ ap (onesBelow (bitAt (a .tree .now))) k)
+    let k : 4 * (a .p / 64 / 4) * 64 ≡ a .p / 64 / 4 * 4 * 64 = omega arith in
+    (omega arith, omega arith, c .before .pre .counts (a .p / 64 / 4) (omega arith) ∙ ap (onesBelow (bitAt (a .tree .now))) k)
 
 cast-n-2 : tie.Need-cast-n-2 Inv-loop μ-loop
 cast-n-2 c = omega (arith, ones-le 64 _ (c .shared-slice-known2 .given (c .before .before .loop .i) .fits))

@@ -6,7 +6,7 @@ use borrow.Author.Needs.{needs}
 use Rattle.k2.specs.Bits.{bitAt}
 use Rattle.k2.specs.BitLaws.{bit-lt, ones-le}
 use Rattle.k2.specs.Trees.{childPlace}
-use Rattle.packing.proofs.LoadLaws.{child-count}
+use Rattle.packing.proofs.CountLaws.{child-count}
 use Rattle.packing.proofs.loading.child_by_word.Statement.{statement}
 use Rattle.packing.proofs.loading.child_by_word.Tie as tie
 
@@ -15,7 +15,7 @@ cast-result c =
     let a = c .before .args in
     omega (
       arith,
-      child-count (a .tree .now) (a .p) _ (c .before .pre .3 (a .p / 64) (c .before .pre .0)),
+      child-count (a .tree .now) (a .p) _ (c .before .pre .counts (a .p / 64) (c .before .pre .inside)),
       ones-le (bitAt (a .tree .now)) (bit-lt (a .tree .now)) (a .p + 1),
     )
 
@@ -24,7 +24,7 @@ cast-result-2 c =
     let a = c .before .before .args in
     omega (
       arith,
-      child-count (a .tree .now) (a .p) _ (c .before .before .pre .3 (a .p / 64) (c .before .before .pre .0)),
+      child-count (a .tree .now) (a .p) _ (c .before .before .pre .counts (a .p / 64) (c .before .before .pre .inside)),
       ones-le (bitAt (a .tree .now)) (bit-lt (a .tree .now)) (a .p + 1),
     )
 
@@ -33,7 +33,7 @@ add-result c =
     let a = c .before .before .args in
     omega (
       arith,
-      child-count (a .tree .now) (a .p) _ (c .before .before .pre .3 (a .p / 64) (c .before .before .pre .0)),
+      child-count (a .tree .now) (a .p) _ (c .before .before .pre .counts (a .p / 64) (c .before .before .pre .inside)),
       ones-le (bitAt (a .tree .now)) (bit-lt (a .tree .now)) (a .p + 1),
     )
 
@@ -42,7 +42,7 @@ mul-result-3 c =
     let a = c .before .before .args in
     omega (
       arith,
-      child-count (a .tree .now) (a .p) _ (c .before .before .pre .3 (a .p / 64) (c .before .before .pre .0)),
+      child-count (a .tree .now) (a .p) _ (c .before .before .pre .counts (a .p / 64) (c .before .before .pre .inside)),
       ones-le (bitAt (a .tree .now)) (bit-lt (a .tree .now)) (a .p + 1),
     )
 
@@ -50,7 +50,7 @@ returns : tie.Need-returns
 unfolding childPlace
 returns c =
     let a = c .before .before .args in
-    let e = child-count (a .tree .now) (a .p) _ (c .before .before .pre .3 (a .p / 64) (c .before .before .pre .0)) in
+    let e = child-count (a .tree .now) (a .p) _ (c .before .before .pre .counts (a .p / 64) (c .before .before .pre .inside)) in
     (ap (λ (x : ℕ). 4 * x) e, omega (arith, ones-le (bitAt (a .tree .now)) (bit-lt (a .tree .now)) (a .p + 1)))
 
 pub child-by-word-spec : {M : Type 1} → statement M

@@ -1,29 +1,27 @@
--- `count_words` sums the ones word by word. The loop's invariant: n is the number of ones before word i, and each word passed has its own.
--- The measure is the words left. It rests on `ones-word`. Assumes nothing.
-use mathlib.Core.Path.{_≡_, refl, sym, ap, _∙_}
-use Prim.Native.Nat.{ℕ, _+_, _-_, _*_, _≤_, _<_}
+-- `count_words` sums the ones word by word. The loop's invariant is `CountLaws` `Counting`, with a count for each word; the measure is the words left.
+-- Assumes nothing.
+use mathlib.Core.Path.{refl}
+use Prim.Native.Nat.{_-_, _*_}
 use native.Mathlib.Omega.{arith}
 use borrow.Author.Needs.{needs}
-use lib.Count.{ones, ones-le}
-use lib.ListN.{length, getD, length-set}
-use Rattle.k2.specs.Bits.{bitAt, onesBelow}
-use Rattle.k2.specs.BitLaws.{bit-lt, ones-word}
+use lib.Count.{ones-le}
+use lib.ListN.{length}
+use Rattle.k2.specs.Bits.{bitAt}
+use Rattle.k2.specs.BitLaws.{bit-lt}
 use Rattle.k2.specs.BitLaws as laws
-use Rattle.packing.proofs.LoadLaws.{count-set}
+use Rattle.packing.specs.Reading.{eachWord}
+use Rattle.packing.proofs.CountLaws.{Counting, counting-none, counting-put, counting-all}
 use Rattle.packing.proofs.loading.count_words.Statement.{statement}
 use Rattle.packing.proofs.loading.count_words.Tie as tie
 
 abbrev Inv-loop : tie.InvT-loop
-Inv-loop tree before₀ n₀ i₀ before n i =
-    (i ≤ length tree) × (length before ≡ length before₀) × (n ≡ onesBelow (bitAt tree) (i * 64))
-    × ((k : ℕ) → k < i → getD before k 0 ≡ onesBelow (bitAt tree) (k * 64))
+Inv-loop tree before₀ n₀ i₀ before n i = Counting eachWord tree before₀ before n i
 
 abbrev μ-loop : tie.MeasureT-loop
 μ-loop tree before₀ n₀ i₀ before n i = length tree - i
 
 loop-holds : tie.Need-loop-holds Inv-loop μ-loop
-unfolding onesBelow
-loop-holds c = (omega arith, refl, refl, λ k l. absurd (omega arith))
+loop-holds c = counting-none eachWord _ _
 
 add-n : tie.Need-add-n Inv-loop μ-loop
 add-n c =
@@ -34,19 +32,10 @@ add-n c =
 loop-again : tie.Need-loop-again Inv-loop μ-loop
 loop-again c =
     let l = c .before .before .loop in
-    let ws = c .before .before .before .args .tree .now in
-    let f = c .shared-slice-known .given (l .i) .fits in (
-      omega arith,
-      simp length-set (l .inv .1),
-      ap (λ (x : ℕ). x + ones (getD ws (l .i) 0)) (l .inv .2) ∙ sym (ones-word ws (l .i) f),
-      count-set (l .before) (l .i) (l .n) (λ k. onesBelow (bitAt ws) (k * 64)) (omega arith) (l .inv .3) (l .inv .2),
-    )
+    counting-put eachWord _ _ (l .inv) (omega arith) (c .shared-slice-known .given (l .i) .fits) (l .i) (omega arith) refl (λ k e. e)
 
 returns : tie.Need-returns Inv-loop μ-loop
-returns c =
-    let l = c .before .loop in
-    let e : l .i ≡ length (c .before .before .args .tree .now) = omega arith in
-    λ k h. l .inv .3 k (omega arith)
+returns c = counting-all eachWord _ _ (c .before .loop .inv) (omega arith)
 
 pub count-words-spec : {M : Type 1} → statement M
 count-words-spec =

@@ -26,14 +26,23 @@ loop-holds : tie.Need-loop-holds Inv-loop μ-loop
 loop-holds c = let a = c .before .before .before .args in (omega arith, refl, λ s u e n. e ∙ ap flat (squares-none 1 (a .list .now) (a .part .from) u s))
 
 square-requires : tie.Need-square-requires Inv-loop μ-loop
-square-requires c κs = let f = c .before .before .before .before .before .before .pre .4 (c .before .before .loop .i) (omega arith) in (f .0, omega arith)
+square-requires c κs =
+    let at-loop = c .before .before in
+    let start = at-loop .before .before .before .before in
+    let f = start .pre .0 .fit (at-loop .loop .i) (omega arith) in (f .bit-of-four, omega arith)
 
 put-cells-requires : tie.Need-put-cells-requires Inv-loop μ-loop
 put-cells-requires c κs =
     let at-loop = c .before .before .before .before in
     let start = at-loop .before .before .before .before in
-    let f = start .pre .4 (at-loop .loop .i) (omega arith) in
-    (f .2, f .3, f .4, c .before .square .ensures .0, at-loop .loop .inv .1 ∙ start .pre .3)
+    let f = start .pre .0 .fit (at-loop .loop .i) (omega arith) in
+    record {
+      row-in = f .rows-in;
+      column-in = f .columns-in;
+      column-even = f .column-even;
+      four-bits = c .before .square .ensures .0;
+      rows-are = at-loop .loop .inv .1 ∙ start .pre .2;
+    }
 
 loop-again : tie.Need-loop-again Inv-loop μ-loop
 loop-again c =

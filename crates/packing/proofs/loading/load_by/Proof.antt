@@ -14,24 +14,27 @@ use Rattle.packing.proofs.loading.load_by.Tie as tie
 
 descend-requires : tie.Need-descend-requires
 descend-requires c κs =
+    let after-count = c .before .before .before .before .before in
     let h = c .before .before .height .ensures in
-    let p = c .before .before .before .before .before .before .before .before .before .pre in (
-      h .1,
-      h .2,
-      p .2,
-      p .1,
-      search needs,
-      c .before .before .before .before .before .count .ensures,
-      omega arith,
-      omega arith,
-      p .3,
-      root-fits (c .before .before .height .result) (pow-mono {j = 10} (h .2)),
+    let p = after-count .before .before .before .before .pre in (
+      record {
+        level-least = h .1;
+        level-most = h .2;
+        sense-is = p .sense-is;
+        short = p .short;
+        places = search needs;
+        counts = after-count .count .ensures;
+      },
+      record { inside = omega arith; few = omega arith; fit = root-fits (c .before .before .height .result) (pow-mono {j = 10} (h .2)) },
+      p .rows-are,
     )
 
 returns : tie.Need-returns
 returns c =
-    let h = c .before .before .before .before .before .height in
-    let g = c .before .before .before .before .before .before .before .before .before .before .before .before .args in
+    let after-height = c .before .before .before .before .before in
+    let after-before2 = after-height .before .before .before .before in
+    let h = after-height .height in
+    let g = after-before2 .before .before .before .args in
     λ a x is e r.
     let t : Cells = turnedBy (g .sense) a in
     c .before .before .descend .ensures x t r

@@ -15,7 +15,12 @@ returns : tie.Need-returns
 returns c =
     let v = c .args .v in
     let q = c .args .q in
-    (omega arith, next-le v q (c .pre .0) (c .pre .1), next-clear v q (c .pre .0) (c .pre .1), next-set v q (c .pre .0) (c .pre .1))
+    record {
+      from-here = omega arith;
+      in-four = next-le v q (c .pre .0) (c .pre .1);
+      zeros = next-clear v q (c .pre .0) (c .pre .1);
+      one-there = next-set v q (c .pre .0) (c .pre .1);
+    }
 
 pub next-one-spec : {M : Type 1} → statement M
 next-one-spec = tie.close (tie.spec (λ c. search needs) (λ c. search needs) cast-result add-result-2 returns)

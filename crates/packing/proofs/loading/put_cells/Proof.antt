@@ -21,7 +21,8 @@ or-two-requires-2 c κs =
 
 returns : tie.Need-returns
 returns c =
-    let after-or-two = c .before .before .before .before .before .before in
+    let after-rows = c .before .before .before .before .before in
+    let after-or-two = after-rows .before in
     let start = after-or-two .before .before .before in
     let a = start .args in
     let p = start .pre in
@@ -29,7 +30,7 @@ returns c =
     c .before .before .or-two2 .ensures
     ∙ ap (λ (f : ℕ → ℕ). either f (shifted ((a .x + 1) * 1024 + a .y) (a .v / 4)))
     (after-or-two .or-two .ensures ∙ ap (λ (f : ℕ → ℕ). either f (shifted (a .x * 1024 + a .y) (a .v % 4))) e)
-    ∙ four-cells s (a .x) (a .y) (a .v) t (p .1) (p .3) d
+    ∙ four-cells s (a .x) (a .y) (a .v) t (p .column-in) (p .four-bits) d
 
 pub put-cells-spec : {M : Type 1} → statement M
 put-cells-spec =

@@ -1,7 +1,8 @@
 -- `fill` goes through the blocks row by row. The loops' invariant: the cells of the blocks passed are there; past the last block of a row there are
 -- no cells (`to-row`). The measures are the rows, and the columns, left. Assumes nothing.
 use mathlib.Core.Path.{_≡_, refl, sym, ap, _∙_}
-use Prim.Native.Nat.{_+_, _-_, _*_, _%_, _^_, _≤_}
+use mathlib.Core.List.{List}
+use Prim.Native.Nat.{ℕ, _+_, _-_, _*_, _%_, _^_, _≤_}
 use native.Mathlib.Omega.{arith}
 use borrow.Author.Needs.{needs}
 use lib.ListN.{length}
@@ -17,11 +18,16 @@ use Rattle.packing.proofs.BlockLaws.{to-none, to-row, to-all}
 use Rattle.packing.proofs.making.fill.Statement.{statement}
 use Rattle.packing.proofs.making.fill.Tie as tie
 
+-- in row r of blocks, those before column c are filled
+record RowFilled (rows : List ℕ) (g base : ℕ) (heap₀ : List ℕ) (r : ℕ) (heap : List ℕ) (c : ℕ) : Type 0 where
+  inside : c ≤ 128
+  eights : c % 8 ≡ 0
+  as-long : length heap ≡ length heap₀
+  filled : (a : Cells) → IsSet (2 ^ (g + 3)) a → bitAt rows ≡ flat a → bitAt heap₀ ≡ raised base (cells (g + 3) (blocksTo (r * 128) a))
+      → bitAt heap ≡ raised base (cells (g + 3) (blocksTo (r * 128 + c) a))
+
 abbrev Inv-loop2 : tie.InvT-loop2
-Inv-loop2 rows g base heap₀ side r c₀ heap c =
-    (c ≤ 128) × (c % 8 ≡ 0) × (length heap ≡ length heap₀)
-    × ((a : Cells) → IsSet (2 ^ (g + 3)) a → bitAt rows ≡ flat a → bitAt heap₀ ≡ raised base (cells (g + 3) (blocksTo (r * 128) a))
-    → bitAt heap ≡ raised base (cells (g + 3) (blocksTo (r * 128 + c) a)))
+Inv-loop2 rows g base heap₀ side r c₀ heap c = RowFilled rows g base heap₀ r heap c
 
 abbrev μ-loop2 : tie.MeasureT-loop2
 μ-loop2 rows g base heap₀ side r c₀ heap c = 128 - c
@@ -38,7 +44,7 @@ side : (c : tie.Start Inv-loop2 μ-loop2 Inv-loop μ-loop) → (1 * 2 ^ (c .args
 side c = one-shl (c .args .g) (omega arith)
 
 few : (c : tie.Start Inv-loop2 μ-loop2 Inv-loop μ-loop) → (1 * 2 ^ (c .args .g)) % 2 ^ 64 ≤ 128
-few c = rw (side c) (pow-mono {j = 7} (c .pre .0))
+few c = rw (side c) (pow-mono {j = 7} (c .pre .levels))
 
 loop-holds : tie.Need-loop-holds Inv-loop2 μ-loop2 Inv-loop μ-loop
 loop-holds c =
@@ -48,7 +54,12 @@ loop-holds c =
 loop2-holds : tie.Need-loop2-holds Inv-loop2 μ-loop2 Inv-loop μ-loop
 loop2-holds c =
     let l = c .before .loop in
-    (omega arith, refl, refl, λ s is e h. let z : l .r * 128 + 0 ≡ l .r * 128 = omega arith in rw z h)
+    record {
+      inside = omega arith;
+      eights = refl;
+      as-long = refl;
+      filled = λ s is e h. let z : l .r * 128 + 0 ≡ l .r * 128 = omega arith in rw z h;
+    }
 
 fill-eight-requires : tie.Need-fill-eight-requires Inv-loop2 μ-loop2 Inv-loop μ-loop
 fill-eight-requires c κs =
@@ -56,17 +67,19 @@ fill-eight-requires c κs =
     let start = at-loop2 .before .before .before .before .before in
     let p = start .pre in
     let e = side start in (
-      p .0,
-      rw e at (at-loop2 .before .loop-test .taken),
-      omega (arith, few start),
-      at-loop2 .loop2 .inv .1,
-      p .1,
-      p .2,
-      omega (arith, at-loop2 .loop2 .inv .2, at-loop2 .before .before .loop .inv .1),
+      record {
+        levels = p .levels;
+        rows-are = p .rows-are;
+        base-most = p .base-most;
+        room = omega (arith, at-loop2 .loop2 .inv .as-long, at-loop2 .before .before .loop .inv .1);
+      },
+      record { row = rw e at (at-loop2 .before .loop-test .taken); column = omega (arith, few start); eights = at-loop2 .loop2 .inv .eights },
     )
 
 loop2-less : tie.Need-loop2-less Inv-loop2 μ-loop2 Inv-loop μ-loop
-loop2-less c = omega (arith, few (c .before .before .before .before .before .before .before .before .before .before))
+loop2-less c =
+    let at-loop2 = c .before .before .before .before .before in
+    omega (arith, few (at-loop2 .before .before .before .before .before))
 
 loop2-again : tie.Need-loop2-again Inv-loop2 μ-loop2 Inv-loop μ-loop
 loop2-again c =
@@ -74,15 +87,16 @@ loop2-again c =
     let at-loop = at-loop2 .before .before in
     let start = at-loop .before .before .before in
     let l = at-loop2 .loop2 in
-    let f = c .before .before .fill-eight in (
-      omega (arith, few start),
-      omega arith,
-      f .kept .1 .1 .1 .1 .1 .0 ∙ l .inv .2,
-      λ s is e h.
+    let f = c .before .before .fill-eight in
+    record {
+      inside = omega (arith, few start);
+      eights = omega arith;
+      as-long = f .kept .1 .1 .1 .1 .1 .0 ∙ l .inv .as-long;
+      filled = λ s is e h.
           let a = start .args in
           let x : at-loop .loop .r * 128 + l .c + 8 ≡ at-loop .loop .r * 128 + (l .c + 8) = omega arith in
-          rw x at (f .ensures s is e (l .inv .3 s is e h)),
-    )
+          rw x at (f .ensures s is e (l .inv .filled s is e h));
+    }
 
 loop-again : tie.Need-loop-again Inv-loop2 μ-loop2 Inv-loop μ-loop
 loop-again c =
@@ -93,11 +107,11 @@ loop-again c =
     let a = start .args in
     let p = start .pre in (
       omega arith,
-      k .inv .2 ∙ l .inv .1,
+      k .inv .as-long ∙ l .inv .1,
       λ s is e h.
-          k .inv .3 s is e (l .inv .2 s is e h)
+          k .inv .filled s is e (l .inv .2 s is e h)
           ∙ ap (λ (t : Cells). raised (a .base) (cells (a .g + 3) t))
-          (to-row (a .g) (p .0) s is (l .r) (k .c) (rw (side start) at (c .loop2-test .left)) (k .inv .0)),
+          (to-row (a .g) (p .levels) s is (l .r) (k .c) (rw (side start) at (c .loop2-test .left)) (k .inv .inside)),
     )
 
 returns : tie.Need-returns Inv-loop2 μ-loop2 Inv-loop μ-loop
@@ -106,7 +120,7 @@ returns c =
     let l = c .before .loop in
     let a = start .args in
     let x : l .r ≡ 2 ^ a .g = omega (arith, side start) in
-    λ s is e h. l .inv .2 s is e h ∙ rw x (ap (λ (t : Cells). raised (a .base) (cells (a .g + 3) t)) (to-all (a .g) (start .pre .0) s is))
+    λ s is e h. l .inv .2 s is e h ∙ rw x (ap (λ (t : Cells). raised (a .base) (cells (a .g + 3) t)) (to-all (a .g) (start .pre .levels) s is))
 
 pub fill-spec : {M : Type 1} → statement M
 fill-spec =

@@ -25,7 +25,7 @@ abbrev μ-loop : tie.MeasureT-loop
 μ-loop rows r c g base heap₀ seen k₀ heap k = 8 - k
 
 few : (c : tie.Start Inv-loop μ-loop) → c .args .r < 128
-few c = omega (arith, pow-mono {j = 7} (c .pre .0))
+few c = omega (arith, pow-mono {j = 7} (c .pre .0 .levels))
 
 mul-together : tie.Need-mul-together Inv-loop μ-loop
 mul-together c = omega (arith, few (c .before .before))
@@ -48,13 +48,16 @@ fill-block-requires c κs =
     let a = start .args in
     let p = start .pre in
     let l = c .before .before .loop in
-    let z : (a .c + l .k) / 8 ≡ a .c / 8 = omega arith in
-    (p .0, p .1, omega arith, p .4, p .5, omega (arith, l .inv .1), rw z (after-together .together .ensures .1))
+    let z : (a .c + l .k) / 8 ≡ a .c / 8 = omega arith in (
+      record { levels = p .0 .levels; rows-are = p .0 .rows-are; base-most = p .0 .base-most; room = omega (arith, l .inv .1) },
+      record { row = p .1 .row; column = omega arith; seen-are = rw z (after-together .together .ensures .1) },
+    )
 
 loop-again : tie.Need-loop-again Inv-loop μ-loop
 loop-again c =
-    let a = c .before .before .before .before .before .before .before .before .before .before .args in
-    let l = c .before .before .before .before .before .loop in
+    let at-loop = c .before .before .before .before .before in
+    let a = at-loop .before .before .before .before .before .args in
+    let l = at-loop .loop in
     let f = c .before .before .fill-block in (
       omega arith,
       f .kept .1 .1 .1 .1 .1 .1 .0 ∙ l .inv .1,
@@ -74,7 +77,7 @@ returns-2 c =
     let p = start .pre in
     λ s is e h.
     h ∙ ap (λ (t : Cells). raised (a .base) (cells (a .g + 3) t))
-    (eight-none (a .rows .now) s e (a .r) (a .c) (a .g) (p .2) (p .3) (p .0) is (c .before .together .ensures .0 (c .if1 .left)))
+    (eight-none (a .rows .now) s e (a .r) (a .c) (a .g) (p .1 .column) (p .1 .eights) (p .0 .levels) is (c .before .together .ensures .0 (c .if1 .left)))
 
 pub fill-eight-spec : {M : Type 1} → statement M
 fill-eight-spec =

@@ -20,7 +20,7 @@ pack-part-requires c κs =
     let u = c .before .tree-unit in
     let s : u .result ≡ (fullSize (h .result) 1 + 63) / 64 =
     u .ensures .0 ∙ treeUnit-size (start .args .n) ∙ ap (λ (x : ℕ). (fullSize x 1 + 63) / 64) (sym (h .ensures .0)) in
-    (start .pre .0, h .ensures .1, h .ensures .2, rw length-take (omega arith))
+    record { rows-are = start .pre .0; some-level = h .ensures .1; few-levels = h .ensures .2; room-is = rw length-take (omega arith) }
 
 returns : tie.Need-returns
 returns c =

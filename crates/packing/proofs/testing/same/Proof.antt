@@ -24,8 +24,9 @@ loop-holds c = (omega arith, λ k l. absurd (omega arith))
 
 returns-2 : tie.Need-returns-2 Inv-loop μ-loop
 returns-2 c =
-    let l = c .before .before .before .before .loop in
-    let a = c .before .before .before .before .before .before .args in
+    let at-loop = c .before .before .before .before in
+    let l = at-loop .loop in
+    let a = at-loop .before .before .args in
     (λ e. false-absurd e, λ e. absurd (c .if2 .taken (ap (λ (w : List ℕ). getD w (l .i) 0) e ∙ getD-take (a .len) (a .b .now) (l .i) 0 (omega arith))))
 
 loop-again : tie.Need-loop-again Inv-loop μ-loop

@@ -9,7 +9,8 @@ use Rattle.k2.specs.Trees.{WellFormed}
 use Rattle.k2.specs.TreeLaws.{tree-none}
 use Rattle.k2.specs.SizeLaws.{treeWords-most}
 use Rattle.bits.specs.BitSetLaws.{bits-none}
-use Rattle.rows.specs.Rows.{flat, noPairs}
+use Rattle.rows.specs.Rows.{flat}
+use Rattle.rows.specs.RowSets.{noPairs}
 use Rattle.rows.specs.RowLaws.{flat-none, union-none}
 use Rattle.packing.proofs.StoreLaws.{false-absurd, nil-of}
 use Rattle.packing.proofs.testing.well_formed.Statement.{statement}

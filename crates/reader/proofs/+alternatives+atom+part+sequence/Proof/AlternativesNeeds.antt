@@ -32,18 +32,30 @@ module _ (t : ℕ) where
   abbrev First : Type 0
   First = alternatives-lts.After-sequence (calls t) (alternatives-at t) alternatives.Post Inv-loop μ-loop
 
+  abbrev AtLoop : Type 0
+  AtLoop = alternatives-lts.At-loop (calls t) (alternatives-at t) alternatives.Post Inv-loop μ-loop
+
+  abbrev at-loop : Ahead → AtLoop
+  at-loop c = c .before .before .before
+
   abbrev first : Ahead → First
-  first c = c .before .before .before .before .before .before
+  first c = at-loop c .before .before .before
 
   abbrev start : Ahead → alternatives-lts.Start (calls t) (alternatives-at t) alternatives.Post Inv-loop μ-loop
   start c = first c .before .before .before .before
 
+  -- what was read next, after the byte
+  abbrev Next : Type 0
+  Next = alternatives-lts.After-sequence2 (calls t) (alternatives-at t) alternatives.Post Inv-loop μ-loop
+
+  abbrev ahead-of : Next → Ahead
+  ahead-of c = c .before .before .before
+
   turn : (c : Ahead)
-      → let at-loop = c .before .before .before in
-      Turn of-alternatives (start c .args .s .now) (start c .args .at) (start c .args .n) (first c .sequence .result)
-      (first c .sequence .last .1 .1 .0) (at-loop .loop .first) (at-loop .loop .code) (c .ends-at .result)
+      → Turn of-alternatives (start c .args .s .now) (start c .args .at) (start c .args .n) (first c .sequence .result)
+      (first c .sequence .last .1 .1 .0) (at-loop c .loop .first) (at-loop c .loop .code) (c .ends-at .result)
   turn c = record {
-    inv = c .before .before .before .loop .inv;
+    inv = at-loop c .loop .inv;
     comes = sym (c .before .before .comes-next .ensures) ∙ c .before .if1 .taken;
     spot = c .ends-at .ensures;
   }
@@ -53,8 +65,9 @@ module _ (t : ℕ) where
 
   pub loop-holds : alternatives-lts.Need-loop-holds (calls t) (alternatives-at t) alternatives.Post Inv-loop μ-loop
   loop-holds c =
-      let f = c .before .before .sequence in
-      looped of-alternatives (f .ensures) (asks-kept (f .kept .1 .1 .0) (c .before .before .before .before .before .before .pre .1))
+      let read = c .before .before in
+      let f = read .sequence in
+      looped of-alternatives (f .ensures) (asks-kept (f .kept .1 .1 .0) (read .before .before .before .before .pre .1))
 
   pub comes-next-requires : alternatives-lts.Need-comes-next-requires (calls t) (alternatives-at t) alternatives.Post Inv-loop μ-loop
   comes-next-requires c κs = search needs
@@ -70,21 +83,20 @@ module _ (t : ℕ) where
 
   pub combined-requires : alternatives-lts.Need-combined-requires (calls t) (alternatives-at t) alternatives.Post Inv-loop μ-loop
   combined-requires c κs =
-      let next = c .before .before .before .sequence2 in
-      room (turn (c .before .before .before .before .before .before)) (next .ensures) (next .kept .1 .1 .0)
+      let next = c .before .before .before in
+      room (turn (ahead-of next)) (next .sequence2 .ensures) (next .sequence2 .kept .1 .1 .0)
 
   pub loop-less : alternatives-lts.Need-loop-less (calls t) (alternatives-at t) alternatives.Post Inv-loop μ-loop
   loop-less c =
-      let next = c .before .before .before .before .before .before .sequence2 in
-      let this = c .before .before .before .before .before .before .before .before .before in
-      falls (turn this) (next .ensures) (next .kept .1 .1 .0) (c .before .before .combined .ensures)
+      let both = c .before .before in
+      let next = both .before .before .before .before in
+      falls (turn (ahead-of next)) (next .sequence2 .ensures) (next .sequence2 .kept .1 .1 .0) (both .combined .ensures)
 
   pub loop-again : alternatives-lts.Need-loop-again (calls t) (alternatives-at t) alternatives.Post Inv-loop μ-loop
   loop-again c =
-      let next = c .before .before .before .before .before .before .sequence2 in
-      let this = c .before .before .before .before .before .before .before .before .before in
-      let both = c .before .before .combined in
-      again (turn this) (next .ensures) (next .kept .1 .1 .0) (both .ensures) refl (both .kept .0)
+      let both = c .before .before in
+      let next = both .before .before .before .before in
+      again (turn (ahead-of next)) (next .sequence2 .ensures) (next .sequence2 .kept .1 .1 .0) (both .combined .ensures) refl (both .combined .kept .0)
 
   pub same-length : alternatives-lts.Need-same-length (calls t) (alternatives-at t) alternatives.Post Inv-loop μ-loop
   same-length c = c .before .before .loop .inv .as-long ∙ c .before .before .before .before .before .sequence .kept .1 .1 .0

@@ -50,7 +50,7 @@ module _ (t : ℕ) where
   entry c = start (hat-of (operand c))
 
   abbrev start-plain : Plain → Start
-  start-plain c = c .before .before .before .before .before .before
+  start-plain c = let else1 = c .before .before in else1 .before .before .before .before
 
   -- the ^ stands inside the text; or there is none
   is-hat : (c : Hat) → firstByte (drop (start c .args .at) (start c .args .s .now)) ≡ hat
@@ -117,19 +117,21 @@ module _ (t : ℕ) where
       room-for-mark (c .before .mark-after2 .ensures) (read .atom2 .ensures) (asked .behind) (omega arith)
 
   pub same-length : part-lts.Need-same-length (calls t) (part-at t) part.Post
-  same-length c = c .before .before .wrapped2 .kept .0 ∙ kept-marked (c .before .before .before .before .before .before)
+  same-length c = let both = c .before .before in both .wrapped2 .kept .0 ∙ kept-marked (both .before .before .before .before)
 
   pub returns : part-lts.Need-returns (calls t) (part-at t) part.Post
   returns c =
-      let read = c .before .before .before .before .before .before in
+      let both = c .before .before in
+      let read = both .before .before .before .before in
       read-as (hat-is (entry read .args .s .now) (entry read .args .at) (is-hat (hat-of (operand read))))
-      (inverts (c .before .before .wrapped2 .ensures) (marked read))
+      (inverts (both .wrapped2 .ensures) (marked read))
 
   pub same-length-2 : part-lts.Need-same-length-2 (calls t) (part-at t) part.Post
-  same-length-2 c = c .before .before .wrapped3 .kept .0 ∙ kept-plain (c .before .before .before .before .before .before .before)
+  same-length-2 c = let whole = c .before .before in whole .wrapped3 .kept .0 ∙ kept-plain (whole .before .before .before .before .before)
 
   pub returns-2 : part-lts.Need-returns-2 (calls t) (part-at t) part.Post
   returns-2 c =
-      let read = c .before .before .before .before .before .before .before in
+      let whole = c .before .before in
+      let read = whole .before .before .before .before .before in
       read-as (plain-is (start-plain read .args .s .now) (start-plain read .args .at) (no-hat read))
-      (marks (c .before .before .before .before .mark-after2 .ensures) (c .before .before .wrapped3 .ensures) (read .atom2 .ensures))
+      (marks (whole .before .before .mark-after2 .ensures) (whole .wrapped3 .ensures) (read .atom2 .ensures))

@@ -32,18 +32,30 @@ module _ (t : ℕ) where
   abbrev First : Type 0
   First = sequence-lts.After-part (calls t) (sequence-at t) sequence.Post Inv-loop μ-loop
 
+  abbrev AtLoop : Type 0
+  AtLoop = sequence-lts.At-loop (calls t) (sequence-at t) sequence.Post Inv-loop μ-loop
+
+  abbrev at-loop : Ahead → AtLoop
+  at-loop c = c .before .before .before
+
   abbrev first : Ahead → First
-  first c = c .before .before .before .before .before .before
+  first c = at-loop c .before .before .before
 
   abbrev start : Ahead → sequence-lts.Start (calls t) (sequence-at t) sequence.Post Inv-loop μ-loop
   start c = first c .before .before .before .before
 
+  -- what was read next, after the byte
+  abbrev Next : Type 0
+  Next = sequence-lts.After-part2 (calls t) (sequence-at t) sequence.Post Inv-loop μ-loop
+
+  abbrev ahead-of : Next → Ahead
+  ahead-of c = c .before .before .before
+
   turn : (c : Ahead)
-      → let at-loop = c .before .before .before in
-      Turn of-parts (start c .args .s .now) (start c .args .at) (start c .args .n) (first c .part .result)
-      (first c .part .last .1 .1 .0) (at-loop .loop .first) (at-loop .loop .code) (c .ends-at .result)
+      → Turn of-parts (start c .args .s .now) (start c .args .at) (start c .args .n) (first c .part .result)
+      (first c .part .last .1 .1 .0) (at-loop c .loop .first) (at-loop c .loop .code) (c .ends-at .result)
   turn c = record {
-    inv = c .before .before .before .loop .inv;
+    inv = at-loop c .loop .inv;
     comes = sym (c .before .before .comes-next .ensures) ∙ c .before .if1 .taken;
     spot = c .ends-at .ensures;
   }
@@ -53,8 +65,9 @@ module _ (t : ℕ) where
 
   pub loop-holds : sequence-lts.Need-loop-holds (calls t) (sequence-at t) sequence.Post Inv-loop μ-loop
   loop-holds c =
-      let f = c .before .before .part in
-      looped of-parts (f .ensures) (asks-kept (f .kept .1 .1 .0) (c .before .before .before .before .before .before .pre .1))
+      let read = c .before .before in
+      let f = read .part in
+      looped of-parts (f .ensures) (asks-kept (f .kept .1 .1 .0) (read .before .before .before .before .pre .1))
 
   pub comes-next-requires : sequence-lts.Need-comes-next-requires (calls t) (sequence-at t) sequence.Post Inv-loop μ-loop
   comes-next-requires c κs = search needs
@@ -70,21 +83,20 @@ module _ (t : ℕ) where
 
   pub combined-requires : sequence-lts.Need-combined-requires (calls t) (sequence-at t) sequence.Post Inv-loop μ-loop
   combined-requires c κs =
-      let next = c .before .before .before .part2 in
-      room (turn (c .before .before .before .before .before .before)) (next .ensures) (next .kept .1 .1 .0)
+      let next = c .before .before .before in
+      room (turn (ahead-of next)) (next .part2 .ensures) (next .part2 .kept .1 .1 .0)
 
   pub loop-less : sequence-lts.Need-loop-less (calls t) (sequence-at t) sequence.Post Inv-loop μ-loop
   loop-less c =
-      let next = c .before .before .before .before .before .before .part2 in
-      let this = c .before .before .before .before .before .before .before .before .before in
-      falls (turn this) (next .ensures) (next .kept .1 .1 .0) (c .before .before .combined .ensures)
+      let both = c .before .before in
+      let next = both .before .before .before .before in
+      falls (turn (ahead-of next)) (next .part2 .ensures) (next .part2 .kept .1 .1 .0) (both .combined .ensures)
 
   pub loop-again : sequence-lts.Need-loop-again (calls t) (sequence-at t) sequence.Post Inv-loop μ-loop
   loop-again c =
-      let next = c .before .before .before .before .before .before .part2 in
-      let this = c .before .before .before .before .before .before .before .before .before in
-      let both = c .before .before .combined in
-      again (turn this) (next .ensures) (next .kept .1 .1 .0) (both .ensures) refl (both .kept .0)
+      let both = c .before .before in
+      let next = both .before .before .before .before in
+      again (turn (ahead-of next)) (next .part2 .ensures) (next .part2 .kept .1 .1 .0) (both .combined .ensures) refl (both .combined .kept .0)
 
   pub same-length : sequence-lts.Need-same-length (calls t) (sequence-at t) sequence.Post Inv-loop μ-loop
   same-length c = c .before .before .loop .inv .as-long ∙ c .before .before .before .before .before .part .kept .1 .1 .0

@@ -11,7 +11,7 @@ use borrow.Author.Tests.{le-leb, lt-leb, eq-eqb, ne-eqb}
 use Rattle.book.specs.Causes.{no-record, touched-record, number, firstNumber}
 use Rattle.book.specs.Basics.{pick}
 use Rattle.book.specs.Book.{Book, Edit, touched}
-use Rattle.links.specs.Links.{linkOf}
+use Rattle.links.specs.Parts.{linkOf}
 use Rattle.register.specs.Marks.{withdrawnMark}
 use Rattle.register.specs.MarkLaws.{represents-marked}
 use Rattle.register.specs.Representation.{packedOf, Represents}

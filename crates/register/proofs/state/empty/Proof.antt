@@ -6,7 +6,7 @@ use Rattle.book.specs.Basics.{has, tally, ended}
 use Rattle.book.specs.Book.{fresh, total}
 use Rattle.book.specs.BookLaws.{fresh-sound}
 use Rattle.book.specs.ListLaws.{in-none}
-use Rattle.links.specs.Links.{wordTotal}
+use Rattle.links.specs.Parts.{wordTotal}
 use Rattle.register.specs.Packed.{Piled}
 use Rattle.register.specs.Representation.{latest}
 use Rattle.register.proofs.SheetLaws.{replicate-at}

@@ -6,7 +6,7 @@ use native.Mathlib.Omega.{arith}
 use borrow.Author.Needs.{needs}
 use Prim.Native.Nat.{_-_, _≤_}
 use lib.ListN.{length, take, drop, length-set}
-use Rattle.links.specs.Links.{linkPair}
+use Rattle.links.specs.Parts.{linkPair}
 use Rattle.rowpairs.proofs.LoneLetterLaws.{written-more, written-all}
 use Rattle.rowpairs.proofs.listing.write_links.Statement.{statement}
 use Rattle.rowpairs.proofs.listing.write_links.Tie as tie

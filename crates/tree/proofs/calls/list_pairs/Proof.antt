@@ -1,7 +1,7 @@
 -- `list_pairs` loads the tree and hands its rows over. Assumes nothing.
 use native.Mathlib.Omega.{arith}
 use borrow.Author.Needs.{needs}
-use Rattle.rows.specs.Rows.{noPairs}
+use Rattle.rows.specs.RowSets.{noPairs}
 use Rattle.tree.proofs.OperationLaws.{rows-none, from-none, set-shown}
 use Rattle.tree.proofs.calls.list_pairs.Statement.{statement}
 use Rattle.tree.proofs.calls.list_pairs.Tie as tie

@@ -7,7 +7,7 @@ use borrow.Author.Needs.{needs}
 use lib.ListN.{length}
 use Rattle.k2.specs.PairSets.{setOf, PairsBelow}
 use Rattle.k2.specs.Trees.{treeWords, treeUnit, WellFormed}
-use Rattle.rows.specs.Rows.{noPairs}
+use Rattle.rows.specs.RowSets.{noPairs}
 use Rattle.rows.specs.RowLaws.{none-set, none-tree, union-none, pair-links, crossed-pairs}
 use Rattle.packing.specs.declared.loading.Sense.the-variants.{Plain}
 use Rattle.tree.specs.declared.operations.Operand.{Operand}

@@ -10,7 +10,7 @@ use Rattle.k2.specs.Trees.{treeUnit, WellFormed}
 use Rattle.k2.specs.TreeSets.{setIn}
 use Rattle.k2.specs.TreeSetLaws.{formed-set}
 use Rattle.bits.specs.BitSets.{none}
-use Rattle.rows.specs.Rows.{noPairs}
+use Rattle.rows.specs.RowSets.{noPairs}
 use Rattle.packing.specs.Senses.{sensed}
 use Rattle.tree.specs.declared.operations.Operand.{Operand}
 use Rattle.tree.specs.declared.operations.Term.{Term}

@@ -4,7 +4,7 @@ use mathlib.Core.List.{List}
 use Prim.Native.Nat.{ℕ}
 use borrow.Author.Needs.{needs}
 use lib.ListN.{length}
-use Rattle.rows.specs.Rows.{pairsIn}
+use Rattle.rows.specs.RowSets.{pairsIn}
 use Rattle.answers.specs.AnswerLaws.{part-given}
 use Rattle.answers.specs.ListingLaws.{shown-over}
 use Rattle.tree.proofs.listing.hand_over.Statement.{statement}

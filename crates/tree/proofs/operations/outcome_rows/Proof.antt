@@ -5,7 +5,7 @@ use borrow.Author.Needs.{needs}
 use borrow.Author.Tests.{not-true, not-false}
 use lib.ListN.{length}
 use Rattle.k2.specs.PairSets.{Cells}
-use Rattle.rows.specs.Rows.{noPairs}
+use Rattle.rows.specs.RowSets.{noPairs}
 use Rattle.tree.specs.Inner.{valued, Room}
 use Rattle.tree.specs.InnerLaws.{valued-set}
 use Rattle.tree.proofs.CopyLaws.{both-absurd}

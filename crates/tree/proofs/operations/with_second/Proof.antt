@@ -3,7 +3,8 @@ use mathlib.Core.Path.{_≡_, refl, ap, _∙_}
 use native.Mathlib.Omega.{arith}
 use borrow.Author.Needs.{needs}
 use Rattle.k2.specs.PairSets.{Cells}
-use Rattle.rows.specs.Rows.{flat, noPairs}
+use Rattle.rows.specs.Rows.{flat}
+use Rattle.rows.specs.RowSets.{noPairs}
 use Rattle.tree.specs.declared.operations.Operand.{Operand}
 use Rattle.tree.specs.declared.operations.Operation.the-variants.{Union, Closure, Optional, Star}
 use Rattle.tree.specs.Inner.{valued}

@@ -1,8 +1,8 @@
 -- `session::put_total` meets its contract: each arm prints its own text. Assumes nothing.
 use Rattle.session.specs.Listing.{totalSaid}
 use borrow.Author.Needs.{needs}
-use Rattle.session.proofs.put_total.Statement.{statement}
-use Rattle.session.proofs.put_total.Tie as tie
+use Rattle.session.proofs.turns.put_total.Statement.{statement}
+use Rattle.session.proofs.turns.put_total.Tie as tie
 
 returns : tie.Need-returns
 unfolding totalSaid

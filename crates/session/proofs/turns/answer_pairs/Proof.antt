@@ -6,8 +6,8 @@ use Rattle.paths.specs.Questions.{by-trees, by-rows}
 use Rattle.session.specs.Program.{engineFor}
 use Rattle.session.specs.Listing.{engine-answers}
 use borrow.Author.Needs.{needs}
-use Rattle.session.proofs.answer_pairs.Statement.{statement}
-use Rattle.session.proofs.answer_pairs.Tie as tie
+use Rattle.session.proofs.turns.answer_pairs.Statement.{statement}
+use Rattle.session.proofs.turns.answer_pairs.Tie as tie
 
 returns : tie.Need-returns
 unfolding engineFor

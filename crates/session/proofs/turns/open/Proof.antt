@@ -6,24 +6,26 @@ use denote.Ref.{now}
 use Rattle.book.specs.Causes.{number}
 use Rattle.session.specs.TurnLaws.{open-none, open-many, open-fine, fresh-fine, kept-turns, fresh-turns}
 use borrow.Author.Needs.{needs}
-use Rattle.session.proofs.open.Statement.{statement}
-use Rattle.session.proofs.open.Tie as tie
+use Rattle.session.proofs.turns.open.Statement.{statement}
+use Rattle.session.proofs.turns.open.Tie as tie
 
 returns : tie.Need-returns
 unfolding number
 returns c =
-    let s = c .before .before .before .before .before .before .args in
+    let then1 = c .before .before .before .before in
+    let s = then1 .before .before .args in
     let w = c .before .before .refuse in
     λ work l. kept-turns (s .state) work l l (now (s .out)) (w .last .1 .1 .0) (w .result) (s .n)
-    (open-none (s .n) (c .before .before .before .before .if1 .taken)) (w .ensures .0) refl (w .ensures .1)
+    (open-none (s .n) (then1 .if1 .taken)) (w .ensures .0) refl (w .ensures .1)
 
 returns-2 : tie.Need-returns-2
 unfolding number
 returns-2 c =
-    let s = c .before .before .before .before .before .before .before .args in
+    let else1 = c .before .before .before .before .before in
+    let s = else1 .before .before .args in
     let w = c .before .before .refuse2 in
     λ work l. kept-turns (s .state) work l l (now (s .out)) (w .last .1 .1 .0) (w .result) (s .n)
-    (open-many (s .n) (c .before .before .before .before .before .if1 .left) (c .before .before .before .before .if2 .taken))
+    (open-many (s .n) (else1 .if1 .left) (c .before .before .before .before .if2 .taken))
     (w .ensures .0) refl (w .ensures .1)
 
 returns-3 : tie.Need-returns-3

@@ -9,16 +9,17 @@ use Rattle.answers.specs.WrittenLaws.{wrote-as}
 use Rattle.session.specs.Program.{asks, call, nextSession, printed, listLeft}
 use Rattle.session.specs.TurnLaws.{closed-turns, call-turns}
 use borrow.Author.Needs.{needs}
-use Rattle.session.proofs.edit.Statement.{statement}
-use Rattle.session.proofs.edit.Tie as tie
+use Rattle.session.proofs.turns.edit.Statement.{statement}
+use Rattle.session.proofs.turns.edit.Tie as tie
 
 returns : tie.Need-returns
 unfolding nextSession printed listLeft number
 returns c =
-    let s = c .before .before .before .before .before .before .before .args in
+    let then1 = c .before .before .before .before in
+    let s = then1 .before .before .before .args in
     let w = c .before .before .refuse in
     λ work l. closed-turns (s .state) work l l (now (s .out)) (w .last .1 .1 .0) (w .result) (asks (call (callOf (s .call)))) refl
-    (λ v t. refl) (λ v t. refl) (not-true _ (c .before .before .before .before .if1 .taken)) (w .ensures .0) refl (w .ensures .1)
+    (λ v t. refl) (λ v t. refl) (not-true _ (then1 .if1 .taken)) (w .ensures .0) refl (w .ensures .1)
 
 returns-2 : tie.Need-returns-2
 returns-2 c =

@@ -7,8 +7,8 @@ use denote.Ref.{now}
 use lib.ListN.{length, take}
 use lib.Seq.{take-all}
 use borrow.Author.Needs.{needs}
-use Rattle.session.proofs.pairs_shown.Statement.{statement}
-use Rattle.session.proofs.pairs_shown.Tie as tie
+use Rattle.session.proofs.turns.pairs_shown.Statement.{statement}
+use Rattle.session.proofs.turns.pairs_shown.Tie as tie
 
 whole : (t : ℕ) (l : List ℕ) → length l < t → take (length l) l ≡ take t l
 whole t l h = take-all (length l) l (omega arith) ∙ sym (take-all t l (omega arith))

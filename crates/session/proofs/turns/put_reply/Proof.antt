@@ -9,8 +9,8 @@ use Rattle.report.specs.Report.{outcomeText}
 use Rattle.answers.specs.Answers.{counted}
 use Rattle.chains.specs.Replies.{outcomeOf, chainCounted}
 use borrow.Author.Needs.{needs}
-use Rattle.session.proofs.put_reply.Statement.{statement}
-use Rattle.session.proofs.put_reply.Tie as tie
+use Rattle.session.proofs.turns.put_reply.Statement.{statement}
+use Rattle.session.proofs.turns.put_reply.Tie as tie
 
 -- the steps are within the list
 fits : (c : tie.After-answer) → c .answer .given .0 .0 ≤ length (now (c .before .before .before .before .args .list))
@@ -21,11 +21,15 @@ slice-aggregate-put-chain : tie.Need-slice-aggregate-put-chain
 slice-aggregate-put-chain c = sym (length-take-le _ _ (fits (c .before .before)))
 
 put-chain-requires : tie.Need-put-chain-requires
-put-chain-requires c κs = let p = c .before .before .before .before .before .before .before .pre .1 in simp length-take (omega arith)
+put-chain-requires c κs =
+    let at-match-keys1 = c .before .before .before .before in
+    let p = at-match-keys1 .before .before .before .pre .1 in simp length-take (omega arith)
 
 returns : tie.Need-returns
 unfolding outcomeText outcomeOf
-returns c = rw (c .before .before .before .before .before .before .answer .given .1) (c .before .before .put-chain .ensures)
+returns c =
+    let after-put-chain = c .before .before in
+    rw (after-put-chain .before .before .before .before .answer .given .1) (after-put-chain .put-chain .ensures)
 
 returns-2 : tie.Need-returns-2
 unfolding outcomeText outcomeOf
