@@ -10,17 +10,13 @@
 --   reaches c anchors x  whether the set of pairs c joins x to some anchor, computed
 --   falls, fallen        whether a record falls, computed; that list, computed
 --   orderly m l          whether the numbers of l ascend, each once, the first at least m, computed
---   supportWork n        the words of work that are needed: 32 × D + 64 × n
 --   fallenOf b v core anchors
 --                        the answer asked of the book b, if the text is an expression
---   supportCauses, supportNumber
---                        the causes against the question, in their order, and the number of the first, or 0
---   supportOutcome b core v anchors work room
---                        its outcome with so many words of work and room for so many in the list: the records that fall, all of them
---   SupportsFor r core v anchors work before after a
---                        asked of the register r with a text of the verdict v, so many words of work and a list that held `before`
+--   supportCauses, supportOutcome b core v anchors work room
+--                        the causes against the question, in their order, and its outcome with a text of the verdict v, so many words of work and room for so
+--                        many in the list: the records that fall, all of them. The work is that of a pair question and of a chain question, 32 × D + 64 × n
 --   Supports r core text anchors work before after a
---                        the same of a text
+--                        asked of the register r, with so many words of work and a list that held `before`
 -- Assumes nothing: these are definitions.
 use mathlib.Core.Path.{_≡_}
 use mathlib.Core.List.{List, [], _∷_, _++_}
@@ -28,7 +24,7 @@ use mathlib.Core.Bool.{Bool, true, false, not, _||_, _&&_}
 use Prim.Native.Nat.{ℕ, zero, suc, _+_}
 use lib.ListN.{length}
 use lib.Dec.{leb, ltb, eqb}
-use Rattle.book.specs.Basics.{pick, In, Rises}
+use Rattle.book.specs.Basics.{pick, In}
 use Rattle.book.specs.Causes.{Cause, no-record, unordered-anchors, short-work, short-list, firstNumber}
 use Rattle.book.specs.Book.{Book}
 use Rattle.k2.specs.PairSets.{Cells}
@@ -42,6 +38,7 @@ use Rattle.paths.specs.Questions.{Outcome, paired, unless, pairsWork, chainWork
 use Rattle.register.specs.Parting.{touches}
 use Rattle.register.specs.declared.Register.{Register}
 use Rattle.query.specs.Asking.{Asks}
+use Rattle.ends.specs.Ends.{Exactly}
 
 -- ---- what falls
 unfoldable pub without : ℕ → Graph → Graph
@@ -55,10 +52,8 @@ pub record Falls (g : Graph) (e : Expr) (core : ℕ) (anchors : List ℕ) (x : �
   pub held : Held g e anchors x
   pub lost : Held (without core g) e anchors x → ⊥
 
-pub record FallenAre (g : Graph) (e : Expr) (core : ℕ) (anchors l : List ℕ) : Type 0 where
-  pub ascending : Rises 0 l
-  pub sound : (x : ℕ) → In x l → Falls g e core anchors x
-  pub whole : (x : ℕ) → Falls g e core anchors x → In x l
+abbrev pub FallenAre : Graph → Expr → ℕ → List ℕ → List ℕ → Type 0
+FallenAre g e core anchors l = Exactly (λ x. Falls g e core anchors x) l
 
 -- ---- the same, computed
 unfoldable pub some : (ℕ → Bool) → List ℕ → Bool
@@ -83,34 +78,24 @@ unfoldable pub orderly : ℕ → List ℕ → Bool
 orderly m [] = true
 orderly m (x ∷ l) = leb m x && orderly (suc x) l
 
-abbrev pub supportWork : ℕ → ℕ
-supportWork n = pairsWork n + chainWork n
-
 unfoldable pub fallenOf : Book → Verdict → ℕ → List ℕ → List ℕ
 fallenOf b (accepted e) core anchors = fallen (asked b) e core anchors
 fallenOf b long core anchors = []
 fallenOf b outside core anchors = []
 fallenOf b large core anchors = []
 
-module _ (b : Book) (core : ℕ) (v : Verdict) (anchors : List ℕ) (work room : ℕ) where
-  unfoldable pub supportCauses : List (Cause × Bool)
-  supportCauses =
-      (no-record, leb (b .n) core || some (leb (b .n)) anchors) ∷
-      (unordered-anchors, not (orderly 0 anchors)) ∷
-      (verdictCause v ++ (
-      (short-work, ltb work (supportWork (b .n))) ∷
-      (short-list, ltb room (length (fallenOf b v core anchors))) ∷ []))
-
-  unfoldable pub supportNumber : ℕ
-  supportNumber = firstNumber supportCauses
+unfoldable pub supportCauses : Book → ℕ → Verdict → List ℕ → ℕ → ℕ → List (Cause × Bool)
+supportCauses b core v anchors work room =
+    (no-record, leb (b .n) core || some (leb (b .n)) anchors) ∷
+    (unordered-anchors, not (orderly 0 anchors)) ∷
+    (verdictCause v ++ (
+    (short-work, ltb work (pairsWork (b .n) + chainWork (b .n))) ∷
+    (short-list, ltb room (length (fallenOf b v core anchors))) ∷ []))
 
 unfoldable pub supportOutcome : Book → ℕ → Verdict → List ℕ → ℕ → ℕ → Outcome
 supportOutcome b core v anchors work room =
-    unless (supportNumber b core v anchors work room) (paired (length (fallenOf b v core anchors)) (fallenOf b v core anchors))
+    unless (firstNumber (supportCauses b core v anchors work room)) (paired (length (fallenOf b v core anchors)) (fallenOf b v core anchors))
 
 -- ---- the promise
-abbrev pub SupportsFor : Register → ℕ → Verdict → List ℕ → ℕ → List ℕ → List ℕ → Counted → Type 0
-SupportsFor r core v anchors work before after a = Asks (length before) r (λ b. supportOutcome b core v anchors work (length before)) before after a
-
 abbrev pub Supports : Register → ℕ → List ℕ → List ℕ → ℕ → List ℕ → List ℕ → Counted → Type 0
-Supports r core text anchors work before after a = SupportsFor r core (verdict text) anchors work before after a
+Supports r core text anchors work before = Asks (length before) r (λ b. supportOutcome b core (verdict text) anchors work (length before)) before

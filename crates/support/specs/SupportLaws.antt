@@ -1,4 +1,5 @@
 -- Laws of sole support: the computed answer is what the definition says, and nothing else is; the order of its causes.
+--   supportWork n         the words of work that are needed: 32 × D + 64 × n
 --   some-in, in-some      some member of a list passes a test exactly if one does
 --   in-chosen, chosen-in, chosen-rises, chosen-same
 --                         the numbers below n that pass a test, ascending; tests that agree below n choose alike
@@ -18,7 +19,7 @@ use mathlib.Core.Path.{_≡_, refl, sym, ap, ap₂, _∙_, subst}
 use mathlib.Core.Logic.{⊎-elim}
 use mathlib.Core.List.{List, [], _∷_, _++_, append-nil}
 use mathlib.Core.Bool.{Bool, true, false, not, _||_, _&&_, false≢true, true≢false}
-use Prim.Native.Nat.{ℕ, zero, suc, _≤_, _<_}
+use Prim.Native.Nat.{ℕ, zero, suc, _+_, _≤_, _<_}
 use native.Mathlib.Omega.{arith}
 use lib.ListN.{length}
 use lib.Dec.{leb, ltb, eqb}
@@ -36,9 +37,14 @@ use Rattle.paths.specs.Relations.{cells}
 use Rattle.paths.specs.ChainLaws.{Inside}
 use Rattle.paths.specs.RelationLaws.{cells-is}
 use Rattle.paths.specs.PairLaws.{history-inside, text-in-order}
+use Rattle.paths.specs.Questions.{pairsWork, chainWork}
 use Rattle.register.specs.Parting.{touches}
-use Rattle.support.specs.Support.{without, Held, Falls, FallenAre, some, chosen, reaches, falls, fallen, orderly, supportWork, fallenOf}
+use Rattle.support.specs.Support.{without, Held, Falls, FallenAre, some, chosen, reaches, falls, fallen, orderly, fallenOf}
 use Rattle.support.specs.Support.{supportCauses}
+
+-- the words of work that are needed
+abbrev pub supportWork : ℕ → ℕ
+supportWork n = pairsWork n + chainWork n
 
 -- ---- tests of members
 pub some-in : (t : ℕ → Bool) (l : List ℕ) → some t l ≡ true → (x : ℕ) × In x l × (t x ≡ true)
