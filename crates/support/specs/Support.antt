@@ -24,7 +24,7 @@ use mathlib.Core.Bool.{Bool, true, false, not, _||_, _&&_}
 use Prim.Native.Nat.{ℕ, zero, suc, _+_}
 use lib.ListN.{length}
 use lib.Dec.{leb, ltb, eqb}
-use Rattle.book.specs.Basics.{pick, In}
+use Rattle.book.specs.Basics.{pick, In, Rises}
 use Rattle.book.specs.Causes.{Cause, no-record, unordered-anchors, short-work, short-list, firstNumber}
 use Rattle.book.specs.Book.{Book}
 use Rattle.k2.specs.PairSets.{Cells}
@@ -38,7 +38,6 @@ use Rattle.paths.specs.Questions.{Outcome, paired, unless, pairsWork, chainWork
 use Rattle.register.specs.Parting.{touches}
 use Rattle.register.specs.declared.Register.{Register}
 use Rattle.query.specs.Asking.{Asks}
-use Rattle.ends.specs.Ends.{Exactly}
 
 -- ---- what falls
 unfoldable pub without : ℕ → Graph → Graph
@@ -52,8 +51,9 @@ pub record Falls (g : Graph) (e : Expr) (core : ℕ) (anchors : List ℕ) (x : �
   pub held : Held g e anchors x
   pub lost : Held (without core g) e anchors x → ⊥
 
-abbrev pub FallenAre : Graph → Expr → ℕ → List ℕ → List ℕ → Type 0
-FallenAre g e core anchors l = Exactly (λ x. Falls g e core anchors x) l
+pub record FallenAre (g : Graph) (e : Expr) (core : ℕ) (anchors l : List ℕ) : Type 0 where
+  pub ascending : Rises 0 l
+  pub same : (x : ℕ) → (In x l → Falls g e core anchors x) × (Falls g e core anchors x → In x l)
 
 -- ---- the same, computed
 unfoldable pub some : (ℕ → Bool) → List ℕ → Bool

@@ -174,17 +174,19 @@ module _ (g : Graph) (I : Inside g) (e : Expr) (core : ℕ) (anchors : List ℕ)
   unfolding fallen
   fallen-are = record {
     ascending = chosen-rises (falls g e core anchors) (g .n);
-    sound = λ x h. computed-falls x (in-chosen (falls g e core anchors) (g .n) h .1);
-    whole = λ x F. chosen-in (falls g e core anchors) (g .n) x (I .below x (F .held .2 .1 .begins)) (falls-computed x F);
+    same = λ x. (
+      λ h. computed-falls x (in-chosen (falls g e core anchors) (g .n) h .1),
+      λ F. chosen-in (falls g e core anchors) (g .n) x (I .below x (F .held .2 .1 .begins)) (falls-computed x F),
+    );
   }
 
   pub fallen-only : (l : List ℕ) → FallenAre g e core anchors l → l ≡ fallen g e core anchors
   fallen-only l p =
       let q = fallen-are in
-      rises-same l (fallen g e core anchors) (p .ascending) (q .ascending) (λ x h. q .whole x (p .sound x h)) (λ x h. p .whole x (q .sound x h))
+      rises-same l (fallen g e core anchors) (p .ascending) (q .ascending) (λ x h. q .same x .1 (p .same x .0 h)) (λ x h. p .same x .1 (q .same x .0 h))
 
   pub core-never : In core (fallen g e core anchors) → ⊥
-  core-never h = fallen-are .sound core h .other refl
+  core-never h = fallen-are .same core .0 h .other refl
 
 pub history-fallen : (n : ℕ) → n ≤ maxRecords → (cs : List Call) (e : Expr) (core : ℕ) (anchors : List ℕ)
     → FallenAre (asked (after (fresh n) cs)) e core anchors (fallen (asked (after (fresh n) cs)) e core anchors)
