@@ -7,9 +7,9 @@ use borrow.Author.Needs.{needs}
 use lib.ListN.{length}
 use Rattle.k2.specs.PairSets.{listed, PairsBelow}
 use Rattle.k2.specs.Trees.{treeUnit, WellFormed}
+use Rattle.k2.specs.TreeSets.{setIn}
 use Rattle.k2.specs.TreeSetLaws.{formed-set}
 use Rattle.k2.specs.SizeLaws.{treeUnit-most}
-use Rattle.tree.specs.Calls.{listOf}
 use Rattle.tree.specs.CallLaws.{one-more}
 use Rattle.tree.proofs.AnswerLaws.{as-good, refuse-list, accept-list, met, formed-most}
 use Rattle.tree.proofs.calls.list.Statement.{statement}
@@ -25,7 +25,7 @@ none c = met _ _ _ _ _ (c .before .refusal .ensures) (c .if1 .left)
 returns : tie.Need-returns
 returns c =
     let a = c .before .before .before .before .before .before .before .args in
-    refuse-list (a .n) (a .a .now ∷ []) (length (a .work .now)) (listOf (a .n) (a .a .now)) (a .out .now) (a .out .now) _
+    refuse-list (a .n) (a .a .now ∷ []) (length (a .work .now)) (listed (a .n) (setIn (a .n) (a .a .now))) (a .out .now) (a .out .now) _
     (c .before .refusal .ensures ∙ as-good (a .n) [] _ _ (length (a .work .now)) (one-more (a .n) (a .a .now))) (c .if1 .taken) refl
 
 list-pairs-requires : tie.Need-list-pairs-requires
@@ -38,7 +38,7 @@ returns-2 c =
     let else1 = c .before .before .before .before in
     let a = else1 .before .before .before .before .before .before .before .args in
     let v = none else1 .3 .0 in
-    accept-list (a .n) (a .a .now ∷ []) (length (a .work .now)) (listOf (a .n) (a .a .now)) (a .out .now) _
+    accept-list (a .n) (a .a .now ∷ []) (length (a .work .now)) (listed (a .n) (setIn (a .n) (a .a .now))) (a .out .now) _
     (else1 .before .refusal .ensures ∙ as-good (a .n) [] _ _ (length (a .work .now)) (one-more (a .n) (a .a .now))) (else1 .if1 .left)
     _ (ap (listed (a .n)) (sym (formed-set v))) (c .before .before .list-pairs .ensures (v .set) (v .is-set) (v .tree))
 

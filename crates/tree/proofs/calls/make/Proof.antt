@@ -14,7 +14,6 @@ use Rattle.tree.specs.declared.operations.Operand.{Operand}
 use Rattle.tree.specs.declared.operations.Operation.the-variants.{Union}
 use Rattle.tree.specs.declared.operations.Term.{Term}
 use Rattle.tree.specs.Inner.{LinksBelow}
-use Rattle.tree.specs.Calls.{treeOf}
 use Rattle.tree.specs.CallLaws.{none-more}
 use Rattle.tree.proofs.AnswerLaws.{as-good, refuse, accept, met}
 use Rattle.tree.proofs.OperationLaws.{one-lent, one-set}
@@ -31,7 +30,7 @@ met-all c = met _ _ _ _ _ (c .before .refusal .ensures) (c .if1 .left)
 returns : tie.Need-returns
 returns c =
     let a = c .before .before .before .before .before .before .args in
-    refuse (a .n) (a .pairs .now) [] (length (a .work .now)) (treeOf (a .n) (a .pairs .now)) (a .out .now) (a .out .now) _
+    refuse (a .n) (a .pairs .now) [] (length (a .work .now)) (treeWords (a .n) (setOf (a .pairs .now))) (a .out .now) (a .out .now) _
     (c .before .refusal .ensures ∙ as-good (a .n) (a .pairs .now) _ _ (length (a .work .now)) (none-more (a .n))) (c .if1 .taken) refl
 
 made-requires : tie.Need-made-requires
@@ -62,7 +61,7 @@ returns-2 c =
     record { operation = Union; first = after-no-operand .no-operand .result; second = record { size = 0; sense = Plain; forward = 1; against = 0 } } in
     let l = one-lent t (a .n) ps _ noPairs e (none-set (a .n)) (none-tree (a .n)) i in
     let y = one-set t (a .n) ps [] noPairs (setOf ps) e (union-none _ ∙ crossed-pairs ps b) ∙ ap (treeWords (a .n)) (union-none (setOf ps)) in
-    accept (a .n) ps [] (length (a .work .now)) (treeOf (a .n) ps) (a .out .now) _
+    accept (a .n) ps [] (length (a .work .now)) (treeWords (a .n) (setOf ps)) (a .out .now) _
     (after-no-operand .before .before .refusal .ensures ∙ as-good (a .n) ps _ _ (length (a .work .now)) (none-more (a .n)))
     (after-no-operand .before .if1 .left)
     _ (after-made .made .ensures .1 noPairs noPairs l .words ∙ y) (c .before .before .settle .ensures)
