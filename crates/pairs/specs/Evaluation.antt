@@ -14,6 +14,8 @@
 --   Totals d os k at  the trees of the first k operands of os have at most d words each, and together `at`
 --   Placed d S        so it is of the operands of S, whatever they are
 --   Room d c S        and the code c is left to run on as many
+--   Space n work used rows
+--                        what is lent for a question about n records: work for 32 trees, the records in use, and rows
 -- Assumes nothing: these are definitions.
 use mathlib.Core.Path.{_≡_}
 use mathlib.Core.List.{List, [], _∷_}
@@ -91,3 +93,10 @@ pub record Placed (d : ℕ) (S : Stack) : Type 0 where
 pub record Room (d : ℕ) (c : List ℕ) (S : Stack) : Type 0 where
   pub height : Height c (S .count)
   pub placed : Placed d S
+
+-- ---- what functions ask for
+pub record Space (n : ℕ) (work used rows : List ℕ) : Type 0 where
+  pub few : n ≤ maxRecords
+  pub room : 32 * treeUnit n ≤ length work
+  pub used-long : length used ≡ 16
+  pub rows-long : length rows ≡ rowsWords

@@ -17,7 +17,7 @@ ghost use Rattle.paths.specs.Questions.{by-trees};
 ghost use Rattle.rows.specs.Rows.{flat};
 ghost use Rattle.query.specs.Evaluation.{Ready, Coded, Lettered};
 ghost use Rattle.query.specs.Asking.{AsksFor, AsksPairs};
-ghost use Rattle.pairs.specs.Evaluation.{lettersOperand, onTop, belowTop, takenOne, takenTwo, pushed, turned, Placed};
+ghost use Rattle.pairs.specs.Evaluation.{lettersOperand, onTop, belowTop, takenOne, takenTwo, pushed, turned, Placed, Space};
 ghost use Rattle.pairs.specs.Steps.{Takes, Goes, Going, Ends};
 use answers::Counted;
 use reader::Item;
@@ -165,8 +165,7 @@ fn operator(
     stack: Stack,
     item: Item,
 ) -> Stack
-    requires { ⌜ (n ≤ maxRecords) × (32 * treeUnit n ≤ length (now work)) × (length (now used) ≡ 16) × (length (now rows) ≡ rowsWords)
-        × Ready item (stack .count) × Placed (treeUnit n) stack ⌝ }
+    requires { ⌜ Space n (now work) (now used) (now rows) × Ready item (stack .count) × Placed (treeUnit n) stack ⌝ }
     ensures { λ r. ⌜ Goes n (now (links .entry)) (now (used .entry)) item (now (work .entry)) (now (work .exit)) stack r ⌝ }
 {
     let taken = take_off(stack, item);
@@ -198,8 +197,7 @@ fn step(
     stack: Stack,
     item: Item,
 ) -> Stack
-    requires { ⌜ (n ≤ maxRecords) × (32 * treeUnit n ≤ length (now work)) × (length (now used) ≡ 16) × (length (now rows) ≡ rowsWords)
-        × Ready item (stack .count) × Placed (treeUnit n) stack ⌝ }
+    requires { ⌜ Space n (now work) (now used) (now rows) × Ready item (stack .count) × Placed (treeUnit n) stack ⌝ }
     ensures { λ r. ⌜ Goes n (now (links .entry)) (now (used .entry)) item (now (work .entry)) (now (work .exit)) stack r ⌝ }
 {
     match item {
@@ -218,8 +216,7 @@ fn evaluate(
     rows: &mut [u64],
     code: &[u64],
 ) -> Stack
-    requires { ⌜ (n ≤ maxRecords) × (32 * treeUnit n ≤ length (now work)) × (length (now used) ≡ 16) × (length (now rows) ≡ rowsWords)
-        × ((s : List ℕ) × (e : Expr) × Coded s e (now code)) ⌝ }
+    requires { ⌜ Space n (now work) (now used) (now rows) × ((s : List ℕ) × (e : Expr) × Coded s e (now code)) ⌝ }
     ensures { λ r. ⌜ Going n (now (links .entry)) (now (used .entry)) (now (code .entry)) (now (work .exit)) r (length (now (code .entry)) - 1) ⌝ }
 {
     let mut stack = Stack {
@@ -246,8 +243,7 @@ fn last(
     stack: Stack,
     item: Item,
 )
-    requires { ⌜ (n ≤ maxRecords) × (32 * treeUnit n ≤ length (now work)) × (length (now used) ≡ 16) × (length (now rows) ≡ rowsWords)
-        × Ready item (stack .count) × Placed (treeUnit n) stack ⌝ }
+    requires { ⌜ Space n (now work) (now used) (now rows) × Ready item (stack .count) × Placed (treeUnit n) stack ⌝ }
     ensures { λ _. ⌜ Ends n (now (links .entry)) (now (used .entry)) item (now (work .entry)) stack (now (rows .exit)) ⌝ }
 {
     let taken = take_off(stack, item);
@@ -258,8 +254,7 @@ fn last(
 
 // The whole code: its value is left in rows.
 fn run(work: &mut [u64], n: usize, links: &[u32], used: &[u64], rows: &mut [u64], code: &[u64])
-    requires { ⌜ (n ≤ maxRecords) × (32 * treeUnit n ≤ length (now work)) × (length (now used) ≡ 16) × (length (now rows) ≡ rowsWords)
-        × ((s : List ℕ) × (e : Expr) × Coded s e (now code)) ⌝ }
+    requires { ⌜ Space n (now work) (now used) (now rows) × ((s : List ℕ) × (e : Expr) × Coded s e (now code)) ⌝ }
     ensures { λ _. ⌜ ((b : Book) → Lettered b n (now (links .entry)) (bitAt (now (used .entry))) → (s : List ℕ) (e : Expr) → Coded s e (now (code .entry))
         → bitAt (now (rows .exit)) ≡ flat (cells (asked b) e)) ⌝ }
 {

@@ -6,6 +6,8 @@
 --                     question, and with none the records below n are marked that have a chain to some anchor
 --   Compares known core n v anchors work before after a
 --                     what `Support` `SupportsFor` says, of a core and anchors that are not refused and with the work of a pair question alone
+--   Comparing marks links core anchors
+--                        what is asked is about records that there are: the core is one, and so are the anchors, which ascend
 -- Assumes nothing: these are definitions.
 use mathlib.Core.Path.{_≡_}
 use mathlib.Core.List.{List}
@@ -39,3 +41,11 @@ pub record Compares (known : Book → Type 0) (core n : ℕ) (v : Verdict) (anch
   pub contained : Contained (length before) (counted a) before after a
   pub book : (b : Book) → known b → n ≡ b .n → (whole : ℕ) → ltb whole (supportWork (b .n)) ≡ ltb work (pairsWork (b .n))
       → Tells (supportOutcome b core v anchors whole (length before)) before after a
+
+-- ---- what functions ask for
+pub record Comparing (marks links : List ℕ) (core : ℕ) (anchors : List ℕ) : Type 0 where
+  pub few : length marks ≤ maxRecords
+  pub few-links : length links ≤ maxLinks
+  pub core-in : core < length marks
+  pub anchors-in : some (leb (length marks)) anchors ≡ false
+  pub ascending : orderly 0 anchors ≡ true

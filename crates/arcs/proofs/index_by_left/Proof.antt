@@ -5,7 +5,7 @@ use Rattle.arcs.proofs.index_by_left.Statement.{statement}
 use Rattle.arcs.proofs.index_by_left.Tie as tie
 
 index-of-requires : tie.Need-index-of-requires
-index-of-requires c κs = let p = c .before .before .before .pre in (p .0, omega arith, p .1, p .2)
+index-of-requires c κs = let p = c .before .before .before .pre in record { few = p .0; part = omega arith; room = p .1; clear = p .2 }
 
 same-length : tie.Need-same-length
 same-length c = c .before .before .index-of .kept .1 .1 .0

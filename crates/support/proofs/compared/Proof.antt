@@ -30,19 +30,19 @@ inside : (c : tie.After-links-apart) → c .links-apart .result ≤ length (c .l
 inside c =
     let start = c .before .before .before .before .before .before .before .before .before .before .before .before .before .before in
     let k : length (c .links-apart .last .1 .1 .0) ≡ 4096 = c .links-apart .kept .1 .1 .0 in
-    omega (arith, c .links-apart .ensures .0, start .pre .1, k)
+    omega (arith, c .links-apart .ensures .0, start .pre .few-links, k)
 
 returns : tie.Need-returns
 returns c = let p = c .before .before .before .before .before .before .before .before .before .before .before .before .pre in
-    first-refused _ _ _ _ _ _ _ (p .0) (p .2) (p .3) (p .4) (c .before .before .before .before .mark-records .ensures) (c .if1 .taken)
+    first-refused _ _ _ _ _ _ _ (p .few) (p .core-in) (p .anchors-in) (p .ascending) (c .before .before .before .before .mark-records .ensures) (c .if1 .taken)
 
 mark-records-requires : tie.Need-mark-records-requires
 mark-records-requires c κs =
     let start = c .before .before .before .before .before .before .before in
-    (start .pre .0, start .pre .3)
+    (start .pre .few, start .pre .anchors-in)
 
 links-apart-requires : tie.Need-links-apart-requires
-links-apart-requires c κs = c .before .before .before .before .before .before .before .before .before .before .before .before .before .pre .1
+links-apart-requires c κs = c .before .before .before .before .before .before .before .before .before .before .before .before .before .pre .few-links
 
 slice-aggregate-mark-records : tie.Need-slice-aggregate-mark-records
 slice-aggregate-mark-records c = sym (length-take-le _ _ (inside (c .before .before)))
@@ -51,7 +51,7 @@ mark-records-requires-2 : tie.Need-mark-records-requires-2
 mark-records-requires-2 c κs =
     let earlier = c .before .before .before .before .before .before .before .before in
     let start = earlier .before .before .before .before .before .before .before .before .before in
-    (start .pre .0, start .pre .3)
+    (start .pre .few, start .pre .anchors-in)
 
 returns-2 : tie.Need-returns-2
 returns-2 c =
@@ -62,7 +62,7 @@ returns-2 c =
     let p = start .pre in
     let m = after-mark-records .mark-records in
     let kept : length (m .last .1 .1 .1 .1 .0) ≡ length (start .args .work .now) = m .kept .1 .1 .1 .1 .0 in
-    second-refused _ _ _ _ _ _ _ (p .0) (p .2) (p .3) (p .4) (m .ensures) (after-links-apart .before .before .if1 .left)
+    second-refused _ _ _ _ _ _ _ (p .few) (p .core-in) (p .anchors-in) (p .ascending) (m .ensures) (after-links-apart .before .before .if1 .left)
     (rest after-links-apart) kept (after-mark-records2 .mark-records2 .ensures) (c .if2 .taken)
 
 list-fallen-requires : tie.Need-list-fallen-requires
@@ -70,7 +70,7 @@ list-fallen-requires c κs =
     let after-mark-records2 = c .before .before .before .before .before .before .before in
     let after-mark-records = after-mark-records2 .before .before .before .before .before .before .before .before .before .before in
     let start = after-mark-records .before .before .before .before .before .before .before .before in
-    (start .pre .0, after-mark-records .mark-records .ensures .long, after-mark-records2 .mark-records2 .ensures .long)
+    (start .pre .few, after-mark-records .mark-records .ensures .long, after-mark-records2 .mark-records2 .ensures .long)
 
 returns-3 : tie.Need-returns-3
 returns-3 c =
@@ -81,7 +81,7 @@ returns-3 c =
     let p = start .pre in
     let m = after-mark-records .mark-records in
     let kept : length (m .last .1 .1 .1 .1 .0) ≡ length (start .args .work .now) = m .kept .1 .1 .1 .1 .0 in
-    handed-over _ _ _ _ _ _ _ (p .0) (p .2) (p .3) (p .4) (m .ensures) (after-links-apart .before .before .if1 .left) (rest after-links-apart)
+    handed-over _ _ _ _ _ _ _ (p .few) (p .core-in) (p .anchors-in) (p .ascending) (m .ensures) (after-links-apart .before .before .if1 .left) (rest after-links-apart)
     kept (after-mark-records2 .mark-records2 .ensures) (c .before .before .list-fallen .ensures)
 
 pub compared-spec : {M : Type 1} → statement M

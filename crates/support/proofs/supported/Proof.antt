@@ -23,13 +23,14 @@ compared-requires : tie.Need-compared-requires
 compared-requires c κs =
     let else3 = c .before .before .before in
     let after-beyond = else3 .before .before .before in
-    let start = after-beyond .before .before .before .before .before .before .before .before in (
-      start .pre .0,
-      start .pre .1,
-      after-beyond .before .if1 .left,
-      sym (after-beyond .beyond .ensures) ∙ else3 .before .before .if2 .left,
-      sym (else3 .before .ascending .ensures) ∙ not-false (else3 .before .ascending .result) (else3 .if3 .left),
-    )
+    let start = after-beyond .before .before .before .before .before .before .before .before in
+    record {
+      few = start .pre .0;
+      few-links = start .pre .1;
+      core-in = after-beyond .before .if1 .left;
+      anchors-in = sym (after-beyond .beyond .ensures) ∙ else3 .before .before .if2 .left;
+      ascending = sym (else3 .before .ascending .ensures) ∙ not-false (else3 .before .ascending .result) (else3 .if3 .left);
+    }
 
 returns-4 : tie.Need-returns-4
 returns-4 c =

@@ -44,7 +44,12 @@ merge-requires c κs =
     let a = after-product-row .before .before .before .before .before .args in
     let z = row-inside (a .x) (a .n) (a .w) (a .b) (omega arith) (omega arith) in
     let k : length (after-product-row .product-row .last .0) ≡ length (a .cells .now) = after-product-row .product-row .kept .0 in
-    (simp length-set (omega (arith, long after-product-row)), omega arith, omega (arith, k, z), omega (arith, k))
+    record {
+      masked = simp length-set (omega (arith, long after-product-row));
+      narrow = omega arith;
+      to-fits = omega (arith, k, z);
+      from-fits = omega (arith, k);
+    }
 
 same-length-2 : tie.Need-same-length-2
 same-length-2 c =

@@ -25,7 +25,7 @@ merge-requires c κs =
     let a = c .before .before .before .before .before .args in
     let z = row-inside (a .x) (a .n) (a .w) (a .b) (omega arith) (omega arith) in
     let k : length (set (a .masks .now) (a .x) 0) ≡ length (a .masks .now) = length-set (a .masks .now) (a .x) 0 in
-    (omega (arith, k), omega arith, omega (arith, z), omega (arith, z))
+    record { masked = omega (arith, k); narrow = omega arith; to-fits = omega (arith, z); from-fits = omega (arith, z) }
 
 same-length-2 : tie.Need-same-length-2
 same-length-2 c =

@@ -1,6 +1,7 @@
 -- `close_row` searches from row x. The loop's invariant: row x and the set of what is seen are a search's, the other rows are as they were (`Searching`),
 -- and z is found and not seen, or all that is found is. Records with empty rows are seen from the first. The measure is the records not seen. It rests on
 -- `searching-more`, `row-done` and `row-back`. Assumes nothing.
+use mathlib.Core.List.{List}
 use mathlib.Core.Path.{_≡_, refl, sym, _∙_}
 use Prim.Native.Nat.{ℕ, _+_, _*_, _-_, _≤_, _<_, max}
 use native.Mathlib.Omega.{arith}
@@ -18,10 +19,16 @@ use Rattle.grid.proofs.SearchLaws.{Searching, searching-none, searching
 use Rattle.grid.proofs.closing.close_row.Statement.{statement}
 use Rattle.grid.proofs.closing.close_row.Tie as tie
 
+-- what holds whenever the loop is at its head
+record Loop (cells₀ masks₀ : List ℕ) (n w x : ℕ) (marks cells masks seen : List ℕ) (z : ℕ) : Type 0 where
+  cells-as-long : length cells ≡ length cells₀
+  masks-as-long : length masks ≡ length masks₀
+  seen-long : length seen ≡ 16
+  fresh : Fresh n w (firstRows w cells masks x) (bitAt seen) z
+  searching : Searching n w x (bitAt marks) (bitAt seen) cells₀ masks₀ cells masks
+
 abbrev Inv-loop : tie.InvT-loop
-Inv-loop cells₀ masks₀ n w x marks seen₀ z₀ cells masks seen z =
-    (length cells ≡ length cells₀) × (length masks ≡ length masks₀) × (length seen ≡ 16) × Fresh n w (firstRows w cells masks x) (bitAt seen) z
-    × Searching n w x (bitAt marks) (bitAt seen) cells₀ masks₀ cells masks
+Inv-loop cells₀ masks₀ n w x marks seen₀ z₀ cells masks seen z = Loop cells₀ masks₀ n w x marks cells masks seen z
 
 abbrev μ-loop : tie.MeasureT-loop
 μ-loop cells₀ masks₀ n w x marks seen₀ z₀ cells masks seen z = onesBelow (λ y. 1 - bitAt seen y) n
@@ -30,19 +37,20 @@ loop-holds : tie.Need-loop-holds Inv-loop μ-loop
 loop-holds c =
     let E = c .before .before .before .before .empty-records in
     let start = c .before .before .before .before .before .before .before .before in
-    let a = start .args in (
-      refl,
-      refl,
-      omega arith,
-      unfold firstRows in (c .fresh .ensures),
-      searching-none (a .n) (a .w) (a .x) _ _ (a .cells .now) (a .masks .now) (start .pre .0 .small) (start .pre .0 .narrow) (start .pre .1) (E .ensures),
-    )
+    let a = start .args in
+    record {
+      cells-as-long = refl;
+      masks-as-long = refl;
+      seen-long = omega arith;
+      fresh = unfold firstRows in (c .fresh .ensures);
+      searching = searching-none (a .n) (a .w) (a .x) _ _ (a .cells .now) (a .masks .now) (start .pre .0 .small) (start .pre .0 .narrow) (start .pre .1) (E .ensures);
+    }
 
 bit-requires : tie.Need-bit-requires Inv-loop μ-loop
 bit-requires c κs = tt
 
 lead-on-requires : tie.Need-lead-on-requires Inv-loop μ-loop
-lead-on-requires c κs = let l = c .before .before .before .before .loop in omega (arith, l .inv .0, l .inv .1)
+lead-on-requires c κs = let l = c .before .before .before .before .loop in omega (arith, l .inv .cells-as-long, l .inv .masks-as-long)
 
 -- the lengths, and that row z ends before the words do
 after : (c : tie.After-lead-on Inv-loop μ-loop)
@@ -55,7 +63,7 @@ after c =
     let a = c .before .before .before .before .before .before .before .before .before .before .before .before .before .before .args in
     let l = c .before .before .before .before .before .loop in
     let o = c .lead-on in
-    (o .kept .0 ∙ l .inv .0, o .kept .1 .0 ∙ l .inv .1, unit-fits (a .n) (a .w) (omega arith) (omega arith), rows-apart (l .z) (a .n) (a .w) (omega arith))
+    (o .kept .0 ∙ l .inv .cells-as-long, o .kept .1 .0 ∙ l .inv .masks-as-long, unit-fits (a .n) (a .w) (omega arith) (omega arith), rows-apart (l .z) (a .n) (a .w) (omega arith))
 
 slice-read-leads-back : tie.Need-slice-read-leads-back Inv-loop μ-loop
 slice-read-leads-back c = omega (arith, after (c .before .before .before .before .before .before) .1)
@@ -82,7 +90,7 @@ returns c =
     let zl : l .z < a .n = omega arith in
     let back = c .before .leads-back .ensures (c .if1 .taken) in
     row-back (a .n) (a .w) (a .x) (l .z) (bitAt (a .marks .now)) (bitAt (l .seen)) (a .cells .now) (a .masks .now) (l .cells) (l .masks) _ _
-    (start .pre .0 .wide) (start .pre .1) zl (after-lead-on .lead-on .ensures) (l .inv .3 .found zl .0) (l .inv .4)
+    (start .pre .0 .wide) (start .pre .1) zl (after-lead-on .lead-on .ensures) (l .inv .fresh .found zl .0) (l .inv .searching)
     (sym (after-bit .bit .ensures) ∙ back .0) (unfold firstRows in (back .1))
 
 slice-read-mark : tie.Need-slice-read-mark Inv-loop μ-loop
@@ -92,14 +100,20 @@ slice-aggregate-mark : tie.Need-slice-aggregate-mark Inv-loop μ-loop
 slice-aggregate-mark c =
     let earlier = c .before .before .before .before .before .before .before .before in
     let at-loop = earlier .before .before .before .before .before .before .before .before in
-    let l = at-loop .loop in omega (arith, l .inv .2)
+    let l = at-loop .loop in omega (arith, l .inv .seen-long)
 
 mark-requires : tie.Need-mark-requires Inv-loop μ-loop
 mark-requires c κs =
     let after-lead-on = c .before .before .before .before .before .before .before .before .before .before .before in
     let at-loop = after-lead-on .before .before .before .before .before in
     let p = at-loop .before .before .before .before .before .before .before .before .before .pre .0 in
-    let f = after after-lead-on in let l = at-loop .loop in (p .narrow, omega (arith, p .small), omega (arith, f .0, f .3, p .words), omega (arith, l .inv .2))
+    let f = after after-lead-on in let l = at-loop .loop in
+    record {
+      narrow = p .narrow;
+      inside = omega (arith, p .small);
+      fits = omega (arith, f .0, f .3, p .words);
+      seen-long = omega (arith, l .inv .seen-long);
+    }
 
 mul-fresh-2 : tie.Need-mul-fresh-2 Inv-loop μ-loop
 mul-fresh-2 c =
@@ -125,7 +139,7 @@ long : (c : tie.After-mark Inv-loop μ-loop) → length (c .mark .last .1 .1 .1 
 long c =
     let earlier = c .before .before .before .before .before .before .before .before in
     let at-loop = earlier .before .before .before .before .before .before .before .before .before in
-    c .mark .kept .1 .1 .1 .1 .1 .0 ∙ at-loop .loop .inv .2
+    c .mark .kept .1 .1 .1 .1 .1 .0 ∙ at-loop .loop .inv .seen-long
 
 slice-aggregate-fresh-2 : tie.Need-slice-aggregate-fresh-2 Inv-loop μ-loop
 slice-aggregate-fresh-2 c = omega (arith, long (c .before .before .before .before))
@@ -137,7 +151,7 @@ fresh-requires-2 c κs =
     let start = after-lead-on .before .before .before .before .before .before .before .before .before .before .before .before .before .before in
     let p = start .pre in
     let f = after after-lead-on in
-    (omega (arith, f .0, p .0), p .1, omega (arith, long after-mark), omega (arith, p .2))
+    record { space = omega (arith, f .0, p .0); inside = p .1; seen-long = omega (arith, long after-mark); closed-long = omega (arith, p .2) }
 
 marked : (c : tie.After-mark Inv-loop μ-loop)
     → let after-lead-on = c .before .before .before .before .before .before .before .before .before .before .before .before in
@@ -164,7 +178,7 @@ loop-less c =
     let zl : l .z < a .n = omega arith in
     left-less (a .n) (a .w) (a .x) (l .z) (bitAt (a .marks .now)) (bitAt (l .seen)) (a .cells .now) (a .masks .now) (l .cells) (l .masks) _ _
     (start .pre .0 .wide) (start .pre .1) zl (after-lead-on .lead-on .ensures)
-    (l .inv .3 .found zl .0) (l .inv .4) _ (marked after-mark) (l .inv .3 .found zl .1)
+    (l .inv .fresh .found zl .0) (l .inv .searching) _ (marked after-mark) (l .inv .fresh .found zl .1)
 
 loop-again : tie.Need-loop-again Inv-loop μ-loop
 loop-again c =
@@ -175,21 +189,22 @@ loop-again c =
     let a = start .args in
     let l = at-loop .loop in
     let zl : l .z < a .n = omega arith in
-    let f = after after-lead-on in (
-      f .0,
-      f .1,
-      long after-mark,
-      unfold firstRows in (c .fresh2 .ensures),
-      searching-more (a .n) (a .w) (a .x) (l .z) (bitAt (a .marks .now)) (bitAt (l .seen)) (a .cells .now) (a .masks .now) (l .cells) (l .masks) _ _
-          (start .pre .0 .wide) (start .pre .1) zl (after-lead-on .lead-on .ensures) (l .inv .3 .found zl .0) (l .inv .4) _ (marked after-mark)
-          (bit-lt (a .marks .now)) (bit-lt (l .seen)) (bit-lt _),
-    )
+    let f = after after-lead-on in
+    record {
+      cells-as-long = f .0;
+      masks-as-long = f .1;
+      seen-long = long after-mark;
+      fresh = unfold firstRows in (c .fresh2 .ensures);
+      searching = searching-more (a .n) (a .w) (a .x) (l .z) (bitAt (a .marks .now)) (bitAt (l .seen)) (a .cells .now) (a .masks .now) (l .cells) (l .masks) _ _
+          (start .pre .0 .wide) (start .pre .1) zl (after-lead-on .lead-on .ensures) (l .inv .fresh .found zl .0) (l .inv .searching) _ (marked after-mark)
+          (bit-lt (a .marks .now)) (bit-lt (l .seen)) (bit-lt _);
+    }
 
 same-length-3 : tie.Need-same-length-3 Inv-loop μ-loop
-same-length-3 c = c .before .loop .inv .0
+same-length-3 c = c .before .loop .inv .cells-as-long
 
 same-length-4 : tie.Need-same-length-4 Inv-loop μ-loop
-same-length-4 c = c .before .loop .inv .1
+same-length-4 c = c .before .loop .inv .masks-as-long
 
 returns-2 : tie.Need-returns-2 Inv-loop μ-loop
 returns-2 c =
@@ -197,7 +212,7 @@ returns-2 c =
     let a = start .args in
     let l = c .before .loop in
     row-done (a .n) (a .w) (a .x) (l .z) _ (bitAt (l .seen)) (a .cells .now) (a .masks .now) (l .cells) (l .masks)
-    (start .pre .0 .wide) (omega arith) (l .inv .3) (l .inv .4)
+    (start .pre .0 .wide) (omega arith) (l .inv .fresh) (l .inv .searching)
 
 pub close-row-spec : {M : Type 1} → statement M
 close-row-spec =

@@ -30,7 +30,12 @@ mul-merge-2 c =
 merge-requires : tie.Need-merge-requires
 merge-requires c κs =
     let a = c .before .before .before .before .before .before .args in
-    (omega arith, omega arith, omega (arith, rows-apart (a .x) (a .n) (a .w) (omega arith)), omega (arith, rows-apart (a .z) (a .n) (a .w) (omega arith)))
+    record {
+      masked = omega arith;
+      narrow = omega arith;
+      to-fits = omega (arith, rows-apart (a .x) (a .n) (a .w) (omega arith));
+      from-fits = omega (arith, rows-apart (a .z) (a .n) (a .w) (omega arith));
+    }
 
 returns-2 : tie.Need-returns-2
 returns-2 c =

@@ -50,7 +50,7 @@ put-pages-requires : tie.Need-put-pages-requires
 put-pages-requires c κs =
     let start = c .before .before .before .before .before .before .before .before in
     let l = long (c .before .before) in
-    (l .0, omega (arith, c .before .if1 .left), start .pre .0 .small, start .pre .1)
+    record { all = l .0; fits = omega (arith, c .before .if1 .left); few = start .pre .0 .small; masked = start .pre .1 }
 
 mul-t7 : tie.Need-mul-t7
 mul-t7 c = let l = long (c .before .before .before .before .before) in omega (arith, l .0, l .1)

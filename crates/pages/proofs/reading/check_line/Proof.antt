@@ -30,7 +30,7 @@ words c =
 returns : tie.Need-returns
 returns c = let s = c .before .before .before .before .before in
     head-stands (now (s .args .text)) (now (s .args .pages)) (s .args .i) (s .args .lines) (s .args .low)
-    (c .before .before .if1 .taken) (s .pre .3) (c .before .is-head .ensures .0 (c .if2 .taken))
+    (c .before .before .if1 .taken) (s .pre .inside) (c .before .is-head .ensures .0 (c .if2 .taken))
 
 returns-2 : tie.Need-returns-2
 returns-2 c = let s = c .before .before .before .before .before in
@@ -60,12 +60,13 @@ is-pair-line-requires c κs =
     let after-cells-at = c .before .before .before .before .before .before .before in
     let s = after-cells-at .before .before .before .before .before in
     let w = words after-cells-at in
-    let q = after-cells-at .cells-at in (
-      q .ensures .0,
-      w .0,
-      rising-small (q .last .1 .1 .0) (q .result) (w .0) (c .before .before .rising .ensures) (c .before .if4 .left),
-      omega (arith, s .pre .0, s .pre .2),
-    )
+    let q = after-cells-at .cells-at in
+    record {
+      few = q .ensures .0;
+      there = w .0;
+      small = rising-small (q .last .1 .1 .0) (q .result) (w .0) (c .before .before .rising .ensures) (c .before .if4 .left);
+      fits = omega (arith, s .pre .line, s .pre .fits);
+    }
 
 returns-5 : tie.Need-returns-5
 returns-5 c =

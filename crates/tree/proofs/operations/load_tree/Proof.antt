@@ -20,7 +20,7 @@ load-requires c κs =
     let start = c .before .before .before .before .before .before .before in
     let a = start .args in
     let p = start .pre in
-    (p .0, rw length-take (omega (arith, treeUnit-most (a .n) (p .0))), p .3)
+    (p .few, rw length-take (omega (arith, treeUnit-most (a .n) (p .few))), p .rows-long)
 
 returns-2 : tie.Need-returns-2
 returns-2 c =

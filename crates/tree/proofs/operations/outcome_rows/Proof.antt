@@ -33,7 +33,7 @@ load-requires c κs =
     let start = after-clear .before .before .before .before .before .before .before .before in
     let p = roomy (after-clear .before .before) in
     let k : length (after-clear .clear .last .0) ≡ length (start .args .rows .now) = after-clear .clear .kept .0 in
-    (p .trees .size, p .trees .first, omega (arith, p .trees .first, p .trees .work), k ∙ p .bits)
+    record { few = p .trees .size; small = p .trees .first; inside = omega (arith, p .trees .first, p .trees .work); rows-long = k ∙ p .bits }
 
 combine-requires : tie.Need-combine-requires
 combine-requires c κs =

@@ -21,7 +21,7 @@ load-requires-3 : tie.Need-load-requires-3
 load-requires-3 c κs =
     let p = c .before .before .before .before .before .before .before .before .before .pre .0 in
     let e = as-long (c .before) in
-    (p .size, omega (arith, e, p .second), omega (arith, e, p .first, p .second, p .work), refl)
+    record { few = p .size; small = omega (arith, e, p .second); inside = omega (arith, e, p .first, p .second, p .work); rows-long = refl }
 
 returns : tie.Need-returns
 returns c =
