@@ -14,6 +14,7 @@
 --   Totals d os k at  the trees of the first k operands of os have at most d words each, and together `at`
 --   Placed d S        so it is of the operands of S, whatever they are
 --   Room d c S        and the code c is left to run on as many
+--   Holding k S       at least k operands wait, and the tree of the one on top lies before their end
 --   Space n work used rows
 --                        what is lent for a question about n records: work for 32 trees, the records in use, and rows
 -- Assumes nothing: these are definitions.
@@ -95,6 +96,12 @@ pub record Room (d : ℕ) (c : List ℕ) (S : Stack) : Type 0 where
   pub placed : Placed d S
 
 -- ---- what functions ask for
+pub record Holding (k : ℕ) (S : Stack) : Type 0 where
+  pub some : k ≤ S .count
+  pub few : S .count ≤ 19
+  pub slots : length (S .operands) ≡ 19
+  pub top : onTop S .size ≤ S .end
+
 pub record Space (n : ℕ) (work used rows : List ℕ) : Type 0 where
   pub few : n ≤ maxRecords
   pub room : 32 * treeUnit n ≤ length work

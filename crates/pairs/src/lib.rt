@@ -17,7 +17,7 @@ ghost use Rattle.paths.specs.Questions.{by-trees};
 ghost use Rattle.rows.specs.Rows.{flat};
 ghost use Rattle.query.specs.Evaluation.{Ready, Coded, Lettered};
 ghost use Rattle.query.specs.Asking.{AsksFor, AsksPairs};
-ghost use Rattle.pairs.specs.Evaluation.{lettersOperand, onTop, belowTop, takenOne, takenTwo, pushed, turned, Placed, Space};
+ghost use Rattle.pairs.specs.Evaluation.{Holding, lettersOperand, onTop, belowTop, takenOne, takenTwo, pushed, turned, Placed, Space};
 ghost use Rattle.pairs.specs.Steps.{Takes, Goes, Going, Ends};
 use answers::Counted;
 use reader::Item;
@@ -86,7 +86,7 @@ fn inverse(stack: Stack) -> Stack
 
 // The operand on top, with an operation on it.
 fn on_one(stack: Stack, operation: tree::Operation) -> Taken
-    requires { ⌜ (1 ≤ stack .count) × (stack .count ≤ 19) × (length (stack .operands) ≡ 19) × (onTop stack .size ≤ stack .end) ⌝ }
+    requires { ⌜ Holding 1 stack ⌝ }
     ensures { λ r. ⌜ r ≡ takenOne operation stack ⌝ }
 {
     let top = stack.count - 1;
@@ -106,8 +106,7 @@ fn on_one(stack: Stack, operation: tree::Operation) -> Taken
 
 // The two operands on top, with an operation on them.
 fn on_two(stack: Stack, operation: tree::Operation) -> Taken
-    requires { ⌜ (2 ≤ stack .count) × (stack .count ≤ 19) × (length (stack .operands) ≡ 19)
-        × (onTop stack .size ≤ stack .end) × (belowTop stack .size ≤ stack .end - onTop stack .size) ⌝ }
+    requires { ⌜ Holding 2 stack × (belowTop stack .size ≤ stack .end - onTop stack .size) ⌝ }
     ensures { λ r. ⌜ r ≡ takenTwo operation stack ⌝ }
 {
     let top = stack.count - 1;

@@ -34,6 +34,8 @@
 --                         the same asked of the links and marks of n records
 --   Members l f           the bits of f are the members of the list l
 --   JoinsSome f l t       t says whether f is 1 at some member of the list l
+--   Joining n cells masks x row
+--                        a relation of n records with a mask for each, one of them, and a row of bits
 -- Assumes nothing: these are definitions.
 use mathlib.Core.Path.{_≡_}
 use mathlib.Core.Bool.{Bool, true, false}
@@ -166,3 +168,9 @@ pub record Members (l : List ℕ) (f : ℕ → ℕ) : Type 0 where
 pub record JoinsSome (f : ℕ → ℕ) (l : List ℕ) (t : Bool) : Type 0 where
   pub found : t ≡ true → (y : ℕ) × In y l × (f y ≡ 1)
   pub none : t ≡ false → (y : ℕ) → In y l → f y ≡ 1 → ⊥
+
+pub record Joining (n : ℕ) (cells masks : List ℕ) (x : ℕ) (row : List ℕ) : Type 0 where
+  pub held : Held n (length cells)
+  pub masked : n ≤ length masks
+  pub inside : x < n
+  pub row-long : 16 ≤ length row

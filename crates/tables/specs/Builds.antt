@@ -18,7 +18,7 @@
 --                        rows of both tables, and at least k parts on the stack s
 --   Tabled follow pred enter
 --                        a row of each table for every state or letter
---   Blank follow pred enter
+--   Unwritten follow pred enter
 --                        the tables are empty
 -- Assumes nothing: these are definitions.
 use mathlib.Core.Path.{_≡_}
@@ -149,7 +149,7 @@ pub record Tabled (follow pred enter : List ℕ) : Type 0 where
   pub pred-long : length pred ≡ 64
   pub enter-long : length enter ≡ 64
 
-pub record Blank (follow pred enter : List ℕ) : Type 0 where
+pub record Unwritten (follow pred enter : List ℕ) : Type 0 where
   pub no-follow : (p : ℕ) → getD follow p 0 ≡ 0
   pub no-pred : (p : ℕ) → getD pred p 0 ≡ 0
   pub no-enter : (p : ℕ) → getD enter p 0 ≡ 0

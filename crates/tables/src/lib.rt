@@ -12,7 +12,7 @@ ghost use Rattle.reader.specs.Code.{code, value};
 ghost use Rattle.automaton.specs.Automata.{automaton};
 ghost use Rattle.automaton.specs.Masks.{Masked};
 ghost use Rattle.tables.specs.Rows.{Joined, sensed, Mixed, Turned};
-ghost use Rattle.tables.specs.Builds.{Part, parts, places, build, Holds, Next, Alone, inSense, Merging, Tabled, Blank};
+ghost use Rattle.tables.specs.Builds.{Part, parts, places, build, Holds, Next, Alone, inSense, Merging, Tabled, Unwritten};
 use reader::Item;
 
 // A state's bit is in a word: the start, and as many positions as an expression may have letters.
@@ -241,7 +241,7 @@ fn built(
     pred: &mut [u64],
     enter: &mut [u64],
 ) -> Stack
-    requires { ⌜ Tabled (now follow) (now pred) (now enter) × Blank (now follow) (now pred) (now enter)
+    requires { ⌜ Tabled (now follow) (now pred) (now enter) × Unwritten (now follow) (now pred) (now enter)
         × ((text : List ℕ) × (e : Expr) × InLimits text e × (now numbers ≡ code e)) ⌝ }
     ensures { λ r. ⌜ ((text : List ℕ) (e : Expr) → InLimits text e → now (numbers .entry) ≡ code e
         → Alone (build (now (follow .exit)) (now (pred .exit)) (now (enter .exit)) r) (value parts (inSense against e))) ⌝ }

@@ -24,7 +24,7 @@ first-chain-requires : tie.Need-first-chain-requires
 first-chain-requires c κs =
     let p = (let earlier = c .before .before .before .before .before .before .before .before .before in
     earlier .before .before .before .before .before .before .before .before .before) .pre in
-    (p .1, p .0, search needs, search needs, search needs, p .2, p .3, p .4)
+    (p .few-links, p .few, search needs, search needs, search needs, p .from-in, p .to-in, p .lent)
 
 returns-3 : tie.Need-returns-3
 returns-3 c =
@@ -37,9 +37,9 @@ returns-3 c =
     let f = after-first-chain .first-chain .ensures in (
       f .0,
       λ text e L q self b R T.
-          f .1 (asked b) e (asked-size R T) (inside R) (spans R T (p .0)) (after-tables-of .tables-of .ensures text e L q)
-          (used R T (a .from) (p .2) (else1 .if1 .left))
-          (used R T (a .to) (p .3) (after-tables-of .before .if2 .left)),
+          f .1 (asked b) e (asked-size R T) (inside R) (spans R T (p .few)) (after-tables-of .tables-of .ensures text e L q)
+          (used R T (a .from) (p .from-in) (else1 .if1 .left))
+          (used R T (a .to) (p .to-in) (after-tables-of .before .if2 .left)),
     )
 
 pub sought-spec : {M : Type 1} → statement M

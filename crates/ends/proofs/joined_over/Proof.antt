@@ -34,7 +34,7 @@ sought-requires c κs =
     let a = accepted here in
     let part : here .answer2 .given .0 .0 - 0 ≡ here .answer2 .given .0 .0 = omega arith in
     let p = start .pre in
-    (p .0, p .1, omega arith, (start .args .text .now, a .0, a .1 .limits, rw part (a .1 .front)))
+    record { few = p .0; few-links = p .1; inside = omega arith; coded = (start .args .text .now, a .0, a .1 .limits, rw part (a .1 .front)) }
 
 returns-2 : tie.Need-returns-2
 returns-2 c =

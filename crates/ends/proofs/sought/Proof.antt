@@ -25,7 +25,7 @@ returns c =
       refl,
       omega arith,
       shown-none _,
-      λ text e L q self b R T. ends-none (a .against) R e (a .x) (out-of-use R T (a .x) (p .2) (c .if1 .taken)),
+      λ text e L q self b R T. ends-none (a .against) R e (a .x) (out-of-use R T (a .x) (p .inside) (c .if1 .taken)),
     )
 
 -- the automaton's tables have a row for each of 64 states
@@ -45,12 +45,12 @@ returns-2 c =
     let long = wide after-tables-of in (
       places (meets (S .result) (T .result .accepting)) (length (a .marks .now)),
       f .0,
-      omega (arith, f .0, length-places (meets (S .result) (T .result .accepting)) (length (a .marks .now)), p .0),
+      omega (arith, f .0, length-places (meets (S .result) (T .result .accepting)) (length (a .marks .now)), p .few),
       f .1,
       λ text e L q self b R N.
           ends-seen (a .against) (asked b) (inside R) e (asked-size R N)
           (S .ensures (asked b) (inSense (a .against) e) (T .result .pred) (T .result .accepting) (asked-size R N) (inside R)
-          (spans R N (p .0)) long (T .ensures text e L q) (used R N (a .x) (p .2) (after-tables-of .before .if1 .left))),
+          (spans R N (p .few)) long (T .ensures text e L q) (used R N (a .x) (p .inside) (after-tables-of .before .if1 .left))),
     )
 
 pub sought-spec : {M : Type 1} → statement M

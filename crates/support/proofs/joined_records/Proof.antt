@@ -45,7 +45,8 @@ loop-holds c =
 joins-some-requires : tie.Need-joins-some-requires Inv-loop μ-loop
 joins-some-requires c κs =
     let P = c .before .before .before .before .before .before .before .pre in
-    (P .0, P .1, c .before .loop-test .taken, omega (arith, c .before .before .before .record-row .ensures .0))
+    let long = c .before .before .before .record-row .ensures .0 in
+    record { held = P .0; masked = P .1; inside = c .before .loop-test .taken; row-long = omega (arith, long) }
 
 array-write-records : tie.Need-array-write-records Inv-loop μ-loop
 array-write-records c = omega (arith, c .before .before .before .loop .inv .n-most)
