@@ -39,7 +39,10 @@ shared-slice-read-list c = omega (arith, c .before .before .before .before .befo
 
 sub-list : tie.Need-sub-list Inv-loop μ-loop
 sub-list c =
-    omega (arith, c .before .before .before .before .before .pre .known (c .before .before .before .before .loop .y) (c .before .before .before .loop-test .taken))
+    omega (
+      arith,
+      c .before .before .before .before .before .pre .known (c .before .before .before .before .loop .y) (c .before .before .before .loop-test .taken),
+    )
 
 slice-write-list : tie.Need-slice-write-list Inv-loop μ-loop
 slice-write-list c =
@@ -65,7 +68,11 @@ loop-again c =
       count-most = omega (arith, w .3);
       as-long = rw (w .2) (simp length-set (l .inv .as-long));
       wrote = rw (w .2, w .3) (wrote-used (a .marks .now) (a .depths .now) (l .y) (l .inv .wrote) (w .0 .taken)
-          (omega (arith, l .inv .as-long, wrote-room (a .marks .now) (a .depths .now) (l .y) (l .inv .wrote) (a .n) h (w .0 .taken) (at-loop .before .pre .fits))));
+          (omega (
+            arith,
+            l .inv .as-long,
+            wrote-room (a .marks .now) (a .depths .now) (l .y) (l .inv .wrote) (a .n) h (w .0 .taken) (at-loop .before .pre .fits),
+          )));
     })
     (λ w. record {
       inside = omega arith;

@@ -64,7 +64,8 @@ returns c =
     let I = after-operate .operate in
     let h : q .start ≤ length (a .work .now) = omega (arith, starts after-take-off, P .0 .room) in
     let kept : length (I .last .1 .0) ≡ length (take (length (a .work .now) - q .start) (drop (q .start) (a .work .now))) = I .kept .1 .0 in
-    goes-operator (a .n) (a .item) (a .links .now) (a .used .now) (a .work .now) (I .last .1 .0) (a .stack) q (I .result) (c .bounded .result) (P .0 .few) (P .0 .room)
+    goes-operator (a .n) (a .item) (a .links .now) (a .used .now) (a .work .now)
+    (I .last .1 .0) (a .stack) q (I .result) (c .bounded .result) (P .0 .few) (P .0 .room)
     (takes after-take-off) h (c .bounded .ensures .0) (c .bounded .ensures .1) kept
     (length (a .rows .now)) (P .0 .rows-long) (I .ensures) (P .0 .used-long) (early after-take-off) (P .2 .slots)
 

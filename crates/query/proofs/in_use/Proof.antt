@@ -42,7 +42,9 @@ slice-aggregate-set-bit : tie.Need-slice-aggregate-set-bit Inv-loop μ-loop
 slice-aggregate-set-bit c = sym (c .before .before .before .before .loop .inv .records-long)
 
 set-bit-requires : tie.Need-set-bit-requires Inv-loop μ-loop
-set-bit-requires c κs = let l = c .before .before .before .before .loop in omega (arith, l .inv .records-long, start-of-loop (c .before .before .before .before) .pre .0)
+set-bit-requires c κs =
+    let at-loop = c .before .before .before .before in
+    let l = at-loop .loop in omega (arith, l .inv .records-long, start-of-loop at-loop .pre .0)
 
 loop-again : tie.Need-loop-again Inv-loop μ-loop
 loop-again c =

@@ -51,11 +51,12 @@ squares-requires c κs = (omega arith, omega arith)
 
 product-row-requires : tie.Need-product-row-requires Inv-loop μ-loop
 product-row-requires c κs =
-    let o = occupied-of-squares (c .before .before .before .before) .occupied in
+    let after-squares = c .before .before .before .before in
+    let o = occupied-of-squares after-squares .occupied in
     record {
       a-long = omega arith;
       i-in = omega arith;
-      mask-few = c .before .before .before .before .squares .ensures .0;
+      mask-few = after-squares .squares .ensures .0;
       columns-long = omega arith;
       list-long = o .kept .1 .1 .0;
       m-most = o .ensures .0;

@@ -47,20 +47,22 @@ loop-holds c =
 
 serves-requires : tie.Need-serves-requires Inv-loop μ-loop
 serves-requires c κs =
-    let a = start-of-loop (c .before .before .before) .args in
+    let at-loop = c .before .before .before in
+    let a = start-of-loop at-loop .args in
     record {
       a-long = omega arith;
       i-in = omega arith;
       b-long = omega arith;
       j-in = omega arith;
       some = omega arith;
-      few = omega (arith, and-le-l (a .mask) (getD (a .list .now) (c .before .before .before .loop .t) 0 / 1024));
+      few = omega (arith, and-le-l (a .mask) (getD (a .list .now) (at-loop .loop .t) 0 / 1024));
     }
 
 loop-again : tie.Need-loop-again Inv-loop μ-loop
 loop-again c =
-    let l = c .before .before .before .loop in
-    let a = start-of-loop (c .before .before .before) .args in
+    let at-loop = c .before .before .before in
+    let l = at-loop .loop in
+    let a = start-of-loop at-loop .args in
     let f = bitAt (a .a .now) in
     let g = bitAt (a .columns .now) in
     let R : ℕ → ℕ → ℕ = λ n. rowAt n (a .m) (a .list .now) in

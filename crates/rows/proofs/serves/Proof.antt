@@ -187,7 +187,8 @@ unfolding served
 returns c =
     let S = c .before .search in
     let a = c .before .before .args in
-    λ g. S .inv .none-found ∙ sym (common-last (a .a .now) (a .b .now) (a .i) (a .j) (a .common) g (S .s) (S .inv .inside) (c .search-test .left) (S .inv .none-common g))
+    λ g. S .inv .none-found
+    ∙ sym (common-last (a .a .now) (a .b .now) (a .i) (a .j) (a .common) g (S .s) (S .inv .inside) (c .search-test .left) (S .inv .none-common g))
 
 returns-2 : tie.Need-returns-2 Inv-loop μ-loop Inv-search μ-search
 unfolding digit served

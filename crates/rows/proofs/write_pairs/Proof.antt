@@ -94,7 +94,8 @@ returns c =
     let r = places-first f (i .p) (b .n * 1024) (omega (arith, i .inv .inside, l .inv .inside)) in
     let h : length (places f (i .p)) ≡ length (b .out .now) = omega (arith, i .inv .t-most, i .inv .as-long, i .inv .t-is, l .inv .as-long, c .if1 .taken) in
     wrote-full (places f (i .p)) (places f (b .n * 1024)) (b .out .now) (i .out) (r .0) h (r .1)
-    (wrote-on (places f (l .q * 64)) (places f (i .p)) (b .out .now) (l .out) (i .out) (places-longer f (l .q * 64) (i .p) (i .inv .p-least)) (l .inv .wrote) (i .inv .wrote))
+    (wrote-on (places f (l .q * 64)) (places f (i .p)) (b .out .now) (l .out) (i .out)
+    (places-longer f (l .q * 64) (i .p) (i .inv .p-least)) (l .inv .wrote) (i .inv .wrote))
 
 cast-p : tie.Need-cast-p Inv-loop2 μ-loop2 Inv-loop μ-loop
 cast-p c = omega (arith, trailing-le 64 (c .before .before .loop2 .rest))

@@ -81,7 +81,8 @@ returns-3 c =
     let p = start .pre in
     let m = after-mark-records .mark-records in
     let kept : length (m .last .1 .1 .1 .1 .0) ≡ length (start .args .work .now) = m .kept .1 .1 .1 .1 .0 in
-    handed-over _ _ _ _ _ _ _ (p .few) (p .core-in) (p .anchors-in) (p .ascending) (m .ensures) (after-links-apart .before .before .if1 .left) (rest after-links-apart)
+    handed-over _ _ _ _ _ _ _ (p .few) (p .core-in) (p .anchors-in) (p .ascending)
+    (m .ensures) (after-links-apart .before .before .if1 .left) (rest after-links-apart)
     kept (after-mark-records2 .mark-records2 .ensures) (c .before .before .list-fallen .ensures)
 
 pub compared-spec : {M : Type 1} → statement M

@@ -75,7 +75,8 @@ loop-again c = let l = c .before .before .before .loop in
       count-most = omega (arith, w .2);
       words-long = ap length (w .1) ∙ length-set (l .words) (l .count) (l .x) ∙ l .inv .words-long;
       chosen-below = ap₂ (λ (k : ℕ) (ws : List ℕ). take k ws) (w .2) (w .1)
-          ∙ chosen-more t (l .words) (l .count) (l .x) (l .inv .chosen-below) (omega (arith, l .inv .words-long)) (sym (c .before .loses .ensures) ∙ w .0 .taken);
+          ∙ chosen-more t (l .words) (l .count) (l .x) (l .inv .chosen-below)
+          (omega (arith, l .inv .words-long)) (sym (c .before .loses .ensures) ∙ w .0 .taken);
     })
     (λ w. record {
       inside = omega arith;

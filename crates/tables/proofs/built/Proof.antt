@@ -63,8 +63,7 @@ step-requires c κs =
     let start = start-of-loop at-loop in
     let p = start .pre in
     let s = start .args .numbers .now in
-    let l = at-loop .loop in
-    (
+    let l = at-loop .loop in (
       record {
         follow-long = l .inv .follow-long;
         pred-long = l .inv .pred-long;
@@ -86,7 +85,8 @@ loop-again c =
       follow-long = t .kept .0 ∙ l .inv .follow-long;
       pred-long = t .kept .1 .0 ∙ l .inv .pred-long;
       enter-long = t .kept .1 .1 .0 ∙ l .inv .enter-long;
-      next-of = λ text e L q. rw add-one (t .ensures (drop (suc (l .i)) s) (value parts e) (rw (drop-cons s (l .i) 0 (omega arith)) at (l .inv .next-of text e L q)));
+      next-of =
+          λ text e L q. rw add-one (t .ensures (drop (suc (l .i)) s) (value parts e) (rw (drop-cons s (l .i) 0 (omega arith)) at (l .inv .next-of text e L q)));
     }
 
 -- one part waits

@@ -57,7 +57,9 @@ inverted-requires : tie.Need-inverted-requires
 inverted-requires c κs =
     let after-enum-told = c .before .before .before in
     let start = start-of-match-keys2 (after-enum-told .before) in
-    let p = start .pre in let z = room-one (p .1 .2) (is-inverse after-enum-told) inverts in (record { follow-long = p .0 .follow-long; pred-long = p .0 .pred-long; some = z .0; few = z .1 }, p .0 .enter-long)
+    let p = start .pre in
+    let z = room-one (p .1 .2) (is-inverse after-enum-told) inverts in
+    (record { follow-long = p .0 .follow-long; pred-long = p .0 .pred-long; some = z .0; few = z .1 }, p .0 .enter-long)
 
 is-star : (c : tie.After-enum-told2) → itemOf (start-of-match-keys3 (c .before) .args .i) ≡ Star
 is-star c = sym (c .before .before .item-of .ensures) ∙ c .enum-told2 .given .1
@@ -65,7 +67,9 @@ is-star c = sym (c .before .before .item-of .ensures) ∙ c .enum-told2 .given .
 repeated-requires : tie.Need-repeated-requires
 repeated-requires c κs =
     let start = start-of-match-keys3 (c .before .before .before) in
-    let p = start .pre in let z = room-one (p .1 .2) (is-star (c .before .before)) stars in record { follow-long = p .0 .follow-long; pred-long = p .0 .pred-long; some = z .0; few = z .1 }
+    let p = start .pre in
+    let z = room-one (p .1 .2) (is-star (c .before .before)) stars in
+    record { follow-long = p .0 .follow-long; pred-long = p .0 .pred-long; some = z .0; few = z .1 }
 
 maybe-requires : tie.Need-maybe-requires
 maybe-requires c κs =
@@ -79,7 +83,9 @@ is-plus c = sym (c .before .before .item-of .ensures) ∙ c .enum-told3 .given .
 repeated-requires-2 : tie.Need-repeated-requires-2
 repeated-requires-2 c κs =
     let start = start-of-match-keys4 (c .before .before .before) in
-    let p = start .pre in let z = room-one (p .1 .2) (is-plus (c .before .before)) repeats in record { follow-long = p .0 .follow-long; pred-long = p .0 .pred-long; some = z .0; few = z .1 }
+    let p = start .pre in
+    let z = room-one (p .1 .2) (is-plus (c .before .before)) repeats in
+    record { follow-long = p .0 .follow-long; pred-long = p .0 .pred-long; some = z .0; few = z .1 }
 
 is-optional : (c : tie.After-enum-told4) → itemOf (start-of-match-keys5 (c .before) .args .i) ≡ Optional
 is-optional c = sym (c .before .before .item-of .ensures) ∙ c .enum-told4 .given .1
@@ -99,7 +105,9 @@ is-sequence c = sym (c .before .before .item-of .ensures) ∙ c .enum-told6 .giv
 followed-requires : tie.Need-followed-requires
 followed-requires c κs =
     let start = start-of-match-keys7 (c .before .before .before) in
-    let p = start .pre in let z = room-two (p .1 .2) (is-sequence (c .before .before)) follows in record { follow-long = p .0 .follow-long; pred-long = p .0 .pred-long; some = z .0; few = z .1 }
+    let p = start .pre in
+    let z = room-two (p .1 .2) (is-sequence (c .before .before)) follows in
+    record { follow-long = p .0 .follow-long; pred-long = p .0 .pred-long; some = z .0; few = z .1 }
 
 returns : tie.Need-returns
 returns c = λ k v N. after-symbol N (is-symbol (c .before .before .before .before)) (λ m st H. c .before .before .symbol .ensures _ _ m st H)

@@ -52,7 +52,8 @@ loop-again c =
       count-most = omega (arith, w .2);
       as-long = rw (w .1) (simp length-set (l .inv .as-long));
       labelled = rw (w .1, w .2)
-          (keep-yes (a .set) (a .words .now) (l .i) h (l .kept) (l .count) (omega (arith, l .inv .count-most, l .inv .as-long, start .pre)) e (w .0 .taken) (l .inv .labelled));
+          (keep-yes (a .set) (a .words .now) (l .i) h (l .kept) (l .count)
+          (omega (arith, l .inv .count-most, l .inv .as-long, start .pre)) e (w .0 .taken) (l .inv .labelled));
     })
     (λ w. record {
       inside = omega arith;
@@ -69,8 +70,10 @@ returns : tie.Need-returns Inv-loop μ-loop
 returns c =
     let start = c .before .before .before .before in
     let l = c .before .loop in
-    let a = start .args in
-    (omega (arith, l .inv .count-most, start .pre .0), l .inv .labelled ∙ ap (labelled (a .set)) (take-all (l .i) (a .words .now) (omega (arith, c .loop-test .left))))
+    let a = start .args in (
+      omega (arith, l .inv .count-most, start .pre .0),
+      l .inv .labelled ∙ ap (labelled (a .set)) (take-all (l .i) (a .words .now) (omega (arith, c .loop-test .left))),
+    )
 
 pub keep-spec : {M : Type 1} → statement M
 keep-spec =

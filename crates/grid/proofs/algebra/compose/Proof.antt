@@ -55,7 +55,8 @@ loop-again c =
       cells-as-long = rw (v .8) (v .3 .kept .0 ∙ l .inv .cells-as-long);
       masks-as-long = rw (v .9) (v .3 .kept .1 .0 ∙ l .inv .masks-as-long);
       through = rw (v .8, v .9)
-          (compose-more (a .n) (a .w) (l .x) (l .b) (a .cells .now) (a .masks .now) (l .cells) (l .masks) nl xl (l .inv .b-is) (l .inv .through) _ _ (v .3 .ensures));
+          (compose-more (a .n) (a .w) (l .x) (l .b) (a .cells .now) (a .masks .now)
+          (l .cells) (l .masks) nl xl (l .inv .b-is) (l .inv .through) _ _ (v .3 .ensures));
     })
     (λ v. record {
       inside = omega arith;

@@ -49,7 +49,9 @@ loop-again c =
       b-is = omega (arith, l .inv .b-is);
       cells-as-long = m .kept .0 ∙ l .inv .cells-as-long;
       masks-as-long = m .kept .1 .0 ∙ l .inv .masks-as-long;
-      through = taken-more (a .n) (a .w) (l .x) (l .b) (a .cells .now) (a .masks .now) (l .cells) (l .masks) _ _ (omega arith) (l .inv .b-is) (l .inv .through) (m .ensures);
+      through =
+          taken-more (a .n) (a .w) (l .x) (l .b) (a .cells .now) (a .masks .now) (l .cells)
+          (l .masks) _ _ (omega arith) (l .inv .b-is) (l .inv .through) (m .ensures);
     }
 
 returns : tie.Need-returns Inv-loop μ-loop

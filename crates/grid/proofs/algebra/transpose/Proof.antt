@@ -60,7 +60,10 @@ take-second-requires : tie.Need-take-second-requires Inv-loop μ-loop
 take-second-requires c κs = omega (arith, long (c .before .before .before .before .before .before))
 
 same-length : tie.Need-same-length Inv-loop μ-loop
-same-length c = c .before .before .before .before .take-second .kept .0 ∙ c .before .before .before .before .before .before .before .before .loop .inv .cells-as-long
+same-length c =
+    let after-take-second = c .before .before .before .before in
+    let at-loop = after-take-second .before .before .before .before in
+    after-take-second .take-second .kept .0 ∙ at-loop .loop .inv .cells-as-long
 
 same-length-2 : tie.Need-same-length-2 Inv-loop μ-loop
 same-length-2 c =

@@ -54,7 +54,8 @@ loop-again c =
       as-long = simp length-set (l .inv .as-long);
       in-mask = L .hit;
       adding = adding-gap (a .w) (a .b) (a .mask) (a .cells .now) (a .set .now) _ (l .c + 1) (c .above .result) (L .low) (L .gap)
-          (adding-word (a .w) (a .b) (a .mask) (a .cells .now) (a .set .now) (l .set) (l .c) (omega (arith, l .inv .as-long)) (l .inv .in-mask (omega arith)) (l .inv .adding));
+          (adding-word (a .w) (a .b) (a .mask) (a .cells .now) (a .set .now) (l .set) (l .c)
+          (omega (arith, l .inv .as-long)) (l .inv .in-mask (omega arith)) (l .inv .adding));
     }
 
 same-length : tie.Need-same-length Inv-loop μ-loop

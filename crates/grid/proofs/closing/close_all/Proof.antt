@@ -44,7 +44,8 @@ loop-holds c =
       marks-long = omega arith;
       stack-long = refl;
       onward = onward-same _ _ _ _ _;
-      settled = settled-gap (a .n) (a .w) _ _ (a .cells .now) (a .masks .now) 0 (c .next .result) (N .high) (c .before .before .before .before .occupied .ensures)
+      settled =
+          settled-gap (a .n) (a .w) _ _ (a .cells .now) (a .masks .now) 0 (c .next .result) (N .high) (c .before .before .before .before .occupied .ensures)
           (N .gap) (λ u h. absurd (omega arith));
     }
 

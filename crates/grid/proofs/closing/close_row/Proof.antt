@@ -43,7 +43,8 @@ loop-holds c =
       masks-as-long = refl;
       seen-long = omega arith;
       fresh = unfold firstRows in (c .fresh .ensures);
-      searching = searching-none (a .n) (a .w) (a .x) _ _ (a .cells .now) (a .masks .now) (start .pre .0 .small) (start .pre .0 .narrow) (start .pre .1) (E .ensures);
+      searching =
+          searching-none (a .n) (a .w) (a .x) _ _ (a .cells .now) (a .masks .now) (start .pre .0 .small) (start .pre .0 .narrow) (start .pre .1) (E .ensures);
     }
 
 bit-requires : tie.Need-bit-requires Inv-loop μ-loop
@@ -62,8 +63,12 @@ after : (c : tie.After-lead-on Inv-loop μ-loop)
 after c =
     let a = c .before .before .before .before .before .before .before .before .before .before .before .before .before .before .args in
     let l = c .before .before .before .before .before .loop in
-    let o = c .lead-on in
-    (o .kept .0 ∙ l .inv .cells-as-long, o .kept .1 .0 ∙ l .inv .masks-as-long, unit-fits (a .n) (a .w) (omega arith) (omega arith), rows-apart (l .z) (a .n) (a .w) (omega arith))
+    let o = c .lead-on in (
+      o .kept .0 ∙ l .inv .cells-as-long,
+      o .kept .1 .0 ∙ l .inv .masks-as-long,
+      unit-fits (a .n) (a .w) (omega arith) (omega arith),
+      rows-apart (l .z) (a .n) (a .w) (omega arith),
+    )
 
 slice-read-leads-back : tie.Need-slice-read-leads-back Inv-loop μ-loop
 slice-read-leads-back c = omega (arith, after (c .before .before .before .before .before .before) .1)

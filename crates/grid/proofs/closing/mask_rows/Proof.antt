@@ -47,7 +47,9 @@ loop-again c =
     record {
       inside = omega arith;
       as-long = simp length-set (l .inv .as-long);
-      masked = λ u h. next (bitAt (a .rows .now)) (l .masks) (l .row) (c .squares .result) (omega (arith, l .inv .as-long)) (c .squares .ensures .1) (l .inv .masked) u h;
+      masked =
+          λ u h. next (bitAt (a .rows .now)) (l .masks) (l .row) (c .squares .result)
+          (omega (arith, l .inv .as-long)) (c .squares .ensures .1) (l .inv .masked) u h;
     }
 
 same-length : tie.Need-same-length Inv-loop μ-loop

@@ -36,7 +36,8 @@ loop-again c =
     record {
       inside = omega arith;
       marks-long = marked-length (l .c) (a .filled .now) (l .marks) (omega arith) (l .inv .marks-long) (c .shared-slice-known .given (l .c) .fits);
-      started = started-word (l .c) (a .filled .now) (l .marks) (omega arith) (l .inv .marks-long) (c .shared-slice-known .given (l .c) .fits) (l .inv .started);
+      started =
+          started-word (l .c) (a .filled .now) (l .marks) (omega arith) (l .inv .marks-long) (c .shared-slice-known .given (l .c) .fits) (l .inv .started);
     }
 
 returns : tie.Need-returns Inv-loop μ-loop

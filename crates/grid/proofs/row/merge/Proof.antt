@@ -52,7 +52,8 @@ returns : tie.Need-returns Inv-loop μ-loop
 returns c =
     let a = c .before .before .before .before .before .before .args in
     let l = c .before .loop in
-    λ z. joined-all (a .w) (a .t) (a .b) (a .f) (l .c) _ (a .source) (a .cells .now) (l .cells) (a .masks .now) (omega arith) (omega arith) refl (l .inv .joined z)
+    λ z. joined-all (a .w) (a .t) (a .b) (a .f) (l .c) _ (a .source) (a .cells .now)
+    (l .cells) (a .masks .now) (omega arith) (omega arith) refl (l .inv .joined z)
 
 pub merge-spec : {M : Type 1} → statement M
 merge-spec =

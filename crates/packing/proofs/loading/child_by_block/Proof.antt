@@ -58,7 +58,9 @@ loop-again c =
     record {
       i-least = omega arith;
       inside = omega arith;
-      n-is = ap (λ (x : ℕ). x + ones (getD (a .tree .now) (l .i) 0)) (l .inv .n-is) ∙ sym (ones-word (a .tree .now) (l .i) (c .shared-slice-known2 .given (l .i) .fits));
+      n-is =
+          ap (λ (x : ℕ). x + ones (getD (a .tree .now) (l .i) 0)) (l .inv .n-is)
+          ∙ sym (ones-word (a .tree .now) (l .i) (c .shared-slice-known2 .given (l .i) .fits));
     }
 
 cast-result : tie.Need-cast-result Inv-loop μ-loop

@@ -64,7 +64,8 @@ cast-words c = omega (arith, c .before .next-pair .ensures .high)
 slice-write-words : tie.Need-slice-write-words Inv-loop μ-loop
 slice-write-words c =
     let at-loop = c .before .before .before in
-    let s = c .before .before .before .before .before .before .before in omega (arith, s .pre .six, at-loop .loop .inv .as-long, c .before .before .loop-test .taken)
+    let s = c .before .before .before .before .before .before .before in
+    omega (arith, s .pre .six, at-loop .loop .inv .as-long, c .before .before .loop-test .taken)
 
 add-count : tie.Need-add-count Inv-loop μ-loop
 add-count c = omega (arith, c .before .before .loop-test .taken)
@@ -96,7 +97,13 @@ same-length-2 c = c .before .loop .inv .as-long
 
 returns-2 : tie.Need-returns-2 Inv-loop μ-loop
 returns-2 c = let here = c .before .loop in
-    record { few = here .inv .inside; in-range = here .inv .place-most; small = here .inv .small; found = here .inv .found; all = λ h. absurd (omega (arith, c .loop-test .left)) }
+    record {
+      few = here .inv .inside;
+      in-range = here .inv .place-most;
+      small = here .inv .small;
+      found = here .inv .found;
+      all = λ h. absurd (omega (arith, c .loop-test .left));
+    }
 
 pub gather-spec : {M : Type 1} → statement M
 gather-spec =

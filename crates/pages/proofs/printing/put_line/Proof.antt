@@ -21,7 +21,9 @@ slice-aggregate-gather : tie.Need-slice-aggregate-gather
 slice-aggregate-gather c = refl
 
 gather-requires : tie.Need-gather-requires
-gather-requires c κs = let s = c .before .before .before .before .before .before in record { inside = s .pre .inside; six = refl; few = s .pre .few; masked = s .pre .masked }
+gather-requires c κs =
+    let s = c .before .before .before .before .before .before in
+    record { inside = s .pre .inside; six = refl; few = s .pre .few; masked = s .pre .masked }
 
 slice-aggregate-put-pair-line : tie.Need-slice-aggregate-put-pair-line
 slice-aggregate-put-pair-line c = let g = c .before .before .gather in let k : length (g .last .1 .1 .1 .1 .0) ≡ 6 = g .kept .1 .1 .1 .1 .0 in sym k

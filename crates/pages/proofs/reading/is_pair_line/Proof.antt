@@ -14,7 +14,9 @@ slice-aggregate-put-pair-line : tie.Need-slice-aggregate-put-pair-line
 slice-aggregate-put-pair-line c = refl
 
 put-pair-line-requires : tie.Need-put-pair-line-requires
-put-pair-line-requires c κs = let s = c .before .before .before in record { few = s .pre .few; there = s .pre .there; small = s .pre .small; fits = omega arith }
+put-pair-line-requires c κs =
+    let s = c .before .before .before in
+    record { few = s .pre .few; there = s .pre .there; small = s .pre .small; fits = omega arith }
 
 slice-aggregate-same-line : tie.Need-slice-aggregate-same-line
 slice-aggregate-same-line c = let q = c .before .before .put-pair-line in let k : length (q .last .1 .1 .0) ≡ 73 = q .kept .1 .1 .0 in sym k
@@ -31,7 +33,8 @@ returns c = let s = c .before .before .before .before .before .before .before in
     let q = c .before .before .before .put-pair-line in
     let k : length (q .last .1 .1 .0) ≡ 73 = q .kept .1 .1 .0 in
     let e : q .last .1 .1 .0 ≡ pairLine (take (s .args .count) (now (s .args .words))) =
-    wrote-whole k (length-pair-line (take (s .args .count) (now (s .args .words))) (small-take (now (s .args .words)) (s .args .count) (s .pre .there) (s .pre .small))
+    wrote-whole k (length-pair-line (take (s .args .count) (now (s .args .words)))
+    (small-take (now (s .args .words)) (s .args .count) (s .pre .there) (s .pre .small))
     (omega (arith, s .pre .few, length-take-le (s .args .count) (now (s .args .words)) (s .pre .there)))) (q .ensures) in
     let r = c .same-line .ensures in
     (λ t. r .0 t ∙ e, λ t. r .1 (t ∙ sym e))

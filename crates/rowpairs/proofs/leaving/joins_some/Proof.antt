@@ -16,9 +16,10 @@ inside : (c : tie.After-row-width)
     let w = c .row-width .result in
     (w ≤ 16) × (a .x * w + w ≤ length (a .cells .now)) × (a .x * w ≤ 16384)
 inside c =
-    let a = c .before .before .before .before .args in
+    let start = c .before .before .before .before in
+    let a = start .args in
     let w = c .row-width .result in
-    let P = c .before .before .before .before .pre in
+    let P = start .pre in
     let z : w ≤ 16 = subst (λ (i : ℕ). i ≤ 16) (sym (c .row-width .ensures)) (width-le _ (P .held .small)) in
     let f : a .n * w ≤ length (a .cells .now) = subst (λ (i : ℕ). a .n * i ≤ length (a .cells .now)) (sym (c .row-width .ensures)) (P .held .front) in
     let p : suc (a .x) * w ≤ a .n * w = mul-le-mul {n₁ = suc (a .x)} {m₁ = w} {n₂ = a .n} {m₂ = w} (P .inside) (omega arith) in

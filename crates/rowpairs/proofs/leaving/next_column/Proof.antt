@@ -128,7 +128,9 @@ loop-again c =
     record {
       low-end = omega arith;
       inside = omega (arith, start .pre .0, then2 .before .loop-test .taken);
-      gap = λ ms e. gap-join _ _ _ _ (l .inv .gap ms e) (column-gap (a .cells .now) ms (a .n) (a .x) (start .pre .1) (a .x * after-row-width .row-width .result * 64)
+      gap =
+          λ ms e. gap-join _ _ _ _ (l .inv .gap ms e)
+          (column-gap (a .cells .now) ms (a .n) (a .x) (start .pre .1) (a .x * after-row-width .row-width .result * 64)
           (ap (λ (w : ℕ). start .args .x * w * 64) (after-row-width .row-width .ensures))
           (l .from) (ap (λ (m : ℕ). digit m (l .from / 64)) e ∙ then2 .if2 .taken)
           _ (omega arith) (λ k i j q. c .before .before .next .ensures .gap _ (omega arith) (omega (arith, c .if4 .left))));
@@ -148,7 +150,9 @@ loop-again-2 c =
     record {
       low-end = omega arith;
       inside = omega (arith, start .pre .0, in-loop .loop-test .taken);
-      gap = λ ms e. gap-join _ _ _ _ (l .inv .gap ms e) (column-gap (a .cells .now) ms (a .n) (a .x) (start .pre .1) (a .x * after-row-width .row-width .result * 64)
+      gap =
+          λ ms e. gap-join _ _ _ _ (l .inv .gap ms e)
+          (column-gap (a .cells .now) ms (a .n) (a .x) (start .pre .1) (a .x * after-row-width .row-width .result * 64)
           (ap (λ (w : ℕ). start .args .x * w * 64) (after-row-width .row-width .ensures))
           (l .from) (ap (λ (m : ℕ). digit m (l .from / 64)) e ∙ c .before .before .if2 .taken)
           _ (omega arith) (λ k i j q. c .before .next .ensures .gap _ (omega arith) (omega (arith, c .if3 .left))));

@@ -98,7 +98,8 @@ loop-again c =
     record {
       low-end = omega (arith, l .inv .low-end);
       inside = omega (arith, inside);
-      gap = gap-join _ _ _ _ (l .inv .gap) (pair-row (start .args .cells .now) (start .args .masks .now) (start .args .n) (l .p) C (omega (arith, c .if2 .left)));
+      gap =
+          gap-join _ _ _ _ (l .inv .gap) (pair-row (start .args .cells .now) (start .args .masks .now) (start .args .n) (l .p) C (omega (arith, c .if2 .left)));
     }
 
 returns-3 : tie.Need-returns-3 Inv-loop μ-loop

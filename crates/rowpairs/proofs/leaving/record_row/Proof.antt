@@ -34,9 +34,11 @@ cast-set-bit c = omega (arith, c .shared-slice-known2 .given (c .before .before 
 
 set-bit-requires : tie.Need-set-bit-requires Inv-loop μ-loop
 set-bit-requires c κs =
-    let a = c .before .before .before .before .before .args in
-    let l = c .before .before .before .loop in
-    omega (arith, l .inv .row-long, c .before .before .before .before .before .pre _ (at-in (a .records .now) (l .i) 0 (omega arith)))
+    let at-loop = c .before .before .before in
+    let start = at-loop .before .before in
+    let a = start .args in
+    let l = at-loop .loop in
+    omega (arith, l .inv .row-long, start .pre _ (at-in (a .records .now) (l .i) 0 (omega arith)))
 
 loop-again : tie.Need-loop-again Inv-loop μ-loop
 loop-again c =

@@ -58,7 +58,9 @@ loop-again c =
       inside = omega arith;
       cells-as-long = ap length (v .9) ∙ v .4 .kept .1 .1 .1 .0 ∙ l .inv .cells-as-long;
       masks-as-long = ap length (v .10) ∙ v .4 .kept .1 .1 .1 .1 .0 ∙ l .inv .masks-as-long;
-      put-below = subst (λ (x : List ℕ). PutBelow (a .n) (a .w) (a .links .now) (a .forward) (a .against) (a .cells .now) (a .masks .now) x (c .if1 .masks) (l .label + 1))
+      put-below =
+          subst (λ (x : List ℕ). PutBelow (a .n) (a .w) (a .links .now) (a .forward)
+          (a .against) (a .cells .now) (a .masks .now) x (c .if1 .masks) (l .label + 1))
           (sym (v .9))
           (subst (λ (x : List ℕ). PutBelow (a .n) (a .w) (a .links .now) (a .forward) (a .against)
           (a .cells .now) (a .masks .now) (v .4 .last .1 .1 .1 .0) x (l .label + 1)) (sym (v .10))
@@ -69,7 +71,9 @@ loop-again c =
       inside = omega arith;
       cells-as-long = ap length (v .1) ∙ l .inv .cells-as-long;
       masks-as-long = ap length (v .2) ∙ l .inv .masks-as-long;
-      put-below = subst (λ (x : List ℕ). PutBelow (a .n) (a .w) (a .links .now) (a .forward) (a .against) (a .cells .now) (a .masks .now) x (c .if1 .masks) (l .label + 1))
+      put-below =
+          subst (λ (x : List ℕ). PutBelow (a .n) (a .w) (a .links .now) (a .forward)
+          (a .against) (a .cells .now) (a .masks .now) x (c .if1 .masks) (l .label + 1))
           (sym (v .1))
           (subst (λ (x : List ℕ). PutBelow (a .n) (a .w) (a .links .now) (a .forward) (a .against) (a .cells .now) (a .masks .now) (l .cells) x (l .label + 1))
           (sym (v .2))
@@ -88,7 +92,8 @@ returns : tie.Need-returns Inv-loop μ-loop
 returns c =
     let a = c .before .before .before .before .before .args in
     let l = c .before .loop in
-    put-ends (a .n) (a .w) (a .links .now) (a .forward) (a .against) (a .cells .now) (a .masks .now) (l .label) (l .cells) (l .masks) (omega arith) (l .inv .put-below)
+    put-ends (a .n) (a .w) (a .links .now) (a .forward) (a .against) (a .cells .now)
+    (a .masks .now) (l .label) (l .cells) (l .masks) (omega arith) (l .inv .put-below)
 
 pub put-letters-spec : {M : Type 1} → statement M
 put-letters-spec =
