@@ -12,7 +12,9 @@
 use mathlib.Core.Path.{_≡_}
 use mathlib.Core.List.{List}
 use Prim.Native.Nat.{ℕ, _+_, _-_, _/_, _%_, _^_, _<_, _≤_}
-use lib.ListN.{getD}
+use lib.ListN.{getD, length}
+use Rattle.arcs.specs.Arcs.{maxArcs}
+use Rattle.book.specs.Causes.{maxRecords}
 
 abbrev pub indexWords : ℕ
 indexWords = 9216

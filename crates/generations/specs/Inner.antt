@@ -43,7 +43,7 @@ use Rattle.k2.specs.PairSets.{Cells, closure}
 use Rattle.paths.specs.Grammar.{bar, open-group, close-group, plus-sign, letter-a}
 use Rattle.register.specs.Marks.{hasMark, withdrawnMark}
 use Rattle.arcs.specs.Arcs.{arcFrom, arcTo}
-use Rattle.book.specs.Causes.{Cause, bad-label, short-work, short-list, firstNumber}
+use Rattle.book.specs.Causes.{Cause, bad-label, short-work, short-list, firstNumber, maxLinks, maxRecords}
 use Rattle.book.specs.Book.{Book}
 use Rattle.answers.specs.Answers.{counted, Contained}
 use Rattle.paths.specs.Chains.{asked, Step, stepWords}
@@ -53,6 +53,7 @@ use Rattle.register.specs.Representation.{Represents}
 use Rattle.generations.specs.Generations.{FirstLoop, Outcome, unless, listAfter, loop}
 use Rattle.generations.specs.declared.GenerationsAnswer.{GenerationsAnswer}
 use Rattle.generations.specs.Generating.{outcomeOf, generationsCounted}
+use Rattle.arcs.specs.Index.{indexWords, Indexed}
 
 abbrev pub Contains : ℕ → List ℕ → Type 0
 Contains m ls = (l : ℕ) → digit m l ≡ bit (has eqb l ls)

@@ -6,9 +6,7 @@ ghost use mathlib.Core.Bool.{true, false};
 ghost use Prim.Native.Nat.{ℕ, _+_, _<_, _≤_, max};
 ghost use lib.ListN.{length, getD, replicate};
 ghost use Rattle.book.specs.Causes.{maxRecords, maxLinks};
-ghost use Rattle.arcs.specs.Arcs.{arcTo};
-ghost use Rattle.arcs.specs.Index.{indexWords, Indexed};
-ghost use Rattle.generations.specs.Inner.{entered, Right, Bounded, Leads, Visited, Visiting};
+ghost use Rattle.generations.specs.Inner.{entered, Right, Leads, Visited, Visiting};
 
 // The depth of a record that is being looked at, and of one to which no link leads.
 const ENTERED: u32 = 1;

@@ -5,9 +5,9 @@ mod depths;
 mod labels;
 
 ghost use mathlib.Core.Path.{_≡_};
-ghost use Prim.Native.Nat.{ℕ, _<_, _≤_};
+ghost use Prim.Native.Nat.{ℕ, _≤_};
 ghost use mathlib.Core.List.{List};
-ghost use lib.ListN.{length, getD};
+ghost use lib.ListN.{length};
 ghost use Rattle.book.specs.Causes.{maxRecords};
 ghost use Rattle.k2.specs.PairSets.{IsSet};
 ghost use Rattle.rows.specs.RowSets.{crossedWords};

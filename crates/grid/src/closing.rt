@@ -20,8 +20,9 @@ ghost use Rattle.k2.specs.PairSets.{Cells, IsSet, closure};
 ghost use Rattle.bits.specs.BitSets.{put};
 ghost use Rattle.rows.specs.Rows.{flat};
 ghost use Rattle.rows.specs.Steps.{Masked};
-ghost use Rattle.grid.specs.Grid.{Space, rowOf, firstRows, first, Looking, Marking, Passing, Stacked};
+ghost use Rattle.grid.specs.Grid.{Space, rowOf, firstRows, first};
 ghost use Rattle.grid.specs.Steps.{mostSteps, stackPlaces, Clean, Merged, Fresh, emptyMarks, Filled, Started, RowClosed, Onward};
+ghost use Rattle.grid.specs.Steps.{Looking, Marking, Passing, Stacked};
 
 // So many words a row has at most, and a part of the marks.
 const ROW: usize = 16;

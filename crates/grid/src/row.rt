@@ -8,8 +8,8 @@ ghost use Prim.Native.Nat.{ℕ, _+_, _*_, _≤_, _<_};
 ghost use lib.ListN.{length};
 ghost use Rattle.k2.specs.Bits.{bitAt};
 ghost use Rattle.bits.specs.BitSets.{both};
-ghost use Rattle.grid.specs.Grid.{rowOf, Merging};
-ghost use Rattle.grid.specs.Steps.{Lowest, wordAt, Merged, Meets};
+ghost use Rattle.grid.specs.Grid.{rowOf};
+ghost use Rattle.grid.specs.Steps.{Lowest, wordAt, Merged, Meets, Merging};
 
 // A word put into word c of the row at place b, whose mask is number t.
 pub fn put(cells: &mut [u64], masks: &mut [u16], t: usize, b: usize, c: usize, v: u64)

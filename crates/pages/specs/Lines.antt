@@ -55,6 +55,7 @@ use Rattle.answers.specs.Written.{Wrote}
 use Rattle.pages.specs.Pages.{joined, parts, linePairs, pagePairs, recordWidth, pairLine, headLine, IsPages}
 use Rattle.pages.specs.declared.reading.Judgement.{Judgement}
 use Rattle.pages.specs.declared.reading.Judgement.the-variants.{Listing, Broken}
+use Rattle.book.specs.Causes.{maxRecords}
 
 abbrev pub lineBytes : ℕ
 lineBytes = 73

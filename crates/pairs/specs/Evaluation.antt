@@ -20,10 +20,10 @@
 -- Assumes nothing: these are definitions.
 use mathlib.Core.Path.{_≡_}
 use mathlib.Core.List.{List, [], _∷_}
-use Prim.Native.Nat.{ℕ, suc, _+_, _-_, _≤_}
+use Prim.Native.Nat.{ℕ, suc, _+_, _-_, _≤_, _*_}
 use lib.ListN.{length, take, drop, getD, set}
 use Rattle.k2.specs.PairSets.{Cells, IsSet}
-use Rattle.k2.specs.Trees.{treeWords}
+use Rattle.k2.specs.Trees.{treeWords, treeUnit}
 use Rattle.paths.specs.Expressions.{Expr}
 use Rattle.paths.specs.Chains.{Graph}
 use Rattle.paths.specs.Relations.{cells}
@@ -37,6 +37,8 @@ use Rattle.tree.specs.declared.operations.Operand.{Operand}
 use Rattle.tree.specs.Inner.{nothing, flipped, valued}
 use Rattle.pairs.specs.declared.Stack.{Stack}
 use Rattle.pairs.specs.declared.Taken.{Taken}
+use Rattle.book.specs.Causes.{maxRecords}
+use Rattle.k2.specs.Sizes.{rowsWords}
 
 abbrev pub lettersOperand : ℕ → ℕ → Operand
 lettersOperand forward against = record { size = 0; sense = Plain; forward = forward; against = against }

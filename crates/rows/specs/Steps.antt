@@ -17,12 +17,14 @@
 -- Assumes nothing: these are definitions.
 use mathlib.Core.Path.{_≡_}
 use mathlib.Core.List.{List}
-use Prim.Native.Nat.{ℕ, _+_, _*_, _/_, _%_, _<_, min}
+use Prim.Native.Nat.{ℕ, _+_, _*_, _/_, _%_, _<_, min, _≤_}
 use lib.Dec.{ltb, eqb}
-use lib.ListN.{getD}
+use lib.ListN.{getD, length}
 use Rattle.book.specs.Basics.{pick}
 use Rattle.k2.specs.Bits.{digit}
 use Rattle.k2.specs.PairSets.{Cells, most}
+use Rattle.k2.specs.Sizes.{rowsWords}
+use Rattle.book.specs.Causes.{maxRecords}
 
 abbrev pub EmptyRow : (ℕ → ℕ) → ℕ → Type 0
 EmptyRow f i = (k : ℕ) → k < 1024 → f (i * 1024 + k) ≡ 0

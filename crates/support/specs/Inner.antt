@@ -11,11 +11,11 @@
 -- Assumes nothing: these are definitions.
 use mathlib.Core.Path.{_≡_}
 use mathlib.Core.List.{List}
-use mathlib.Core.Bool.{Bool, false, not, _&&_}
-use Prim.Native.Nat.{ℕ, _<_}
+use mathlib.Core.Bool.{Bool, false, not, _&&_, true}
+use Prim.Native.Nat.{ℕ, _<_, _≤_}
 use lib.ListN.{length, getD}
-use lib.Dec.{ltb, eqb}
-use Rattle.book.specs.Causes.{Caused, firstNumber, maxRecords}
+use lib.Dec.{ltb, eqb, leb}
+use Rattle.book.specs.Causes.{Caused, firstNumber, maxRecords, maxLinks}
 use Rattle.book.specs.Book.{Book}
 use Rattle.paths.specs.Expressions.{Expr}
 use Rattle.paths.specs.Grammar.{Verdict, accepted}
@@ -24,7 +24,7 @@ use Rattle.paths.specs.Relations.{cells}
 use Rattle.answers.specs.Answers.{counted, Contained}
 use Rattle.answers.specs.declared.Counted.{Counted}
 use Rattle.paths.specs.Questions.{by-trees, pairsWork, pairsCauses, Tells}
-use Rattle.support.specs.Support.{reaches, supportWork, supportOutcome}
+use Rattle.support.specs.Support.{reaches, supportWork, supportOutcome, some, orderly}
 use Rattle.support.specs.declared.Marks.{Marks}
 
 unfoldable pub lost : List Bool → List Bool → ℕ → ℕ → Bool

@@ -1,7 +1,7 @@
 // Sole support: which records would lose every chain to the anchors if one core did. A product above the engine: the relation behind its questions is asked
 // of the register's marks and links, and of what is left of them without the core's links; its proofs rest on what is promised there.
 ghost use mathlib.Core.Path.{_≡_};
-ghost use mathlib.Core.Bool.{true, false, not, _&&_};
+ghost use mathlib.Core.Bool.{false, not, _&&_};
 ghost use Prim.Native.Nat.{ℕ, _<_, _≤_, min};
 ghost use lib.Dec.{leb};
 ghost use lib.ListN.{length, take, getD};

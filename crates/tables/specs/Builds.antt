@@ -26,7 +26,7 @@ use mathlib.Core.List.{List, [], _∷_}
 use mathlib.Core.Bool.{Bool, true, false}
 use Prim.Native.Nat.{ℕ, suc, _+_, _<_, _≤_}
 use lib.Dec.{leb}
-use lib.ListN.{getD}
+use lib.ListN.{getD, length}
 use Rattle.book.specs.Basics.{bit}
 use Rattle.book.specs.Causes.{maxLetters}
 use Rattle.k2.specs.Bits.{digit}

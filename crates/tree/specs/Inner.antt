@@ -28,7 +28,7 @@
 use mathlib.Core.Path.{_≡_}
 use mathlib.Core.Bool.{Bool, true, false}
 use mathlib.Core.List.{List, map}
-use Prim.Native.Nat.{ℕ, _*_, _≤_}
+use Prim.Native.Nat.{ℕ, _*_, _≤_, _+_}
 use lib.ListN.{length, take, drop}
 use Rattle.book.specs.Causes.{maxRecords}
 use Rattle.k2.specs.Sizes.{rowsWords}

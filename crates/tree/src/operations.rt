@@ -3,13 +3,12 @@
 use packing::Sense;
 ghost use mathlib.Core.Path.{_≡_};
 ghost use mathlib.Core.Bool.{true};
-ghost use Prim.Native.Nat.{ℕ, _+_, _≤_};
+ghost use Prim.Native.Nat.{ℕ};
 ghost use lib.ListN.{length, take, drop};
-ghost use Rattle.book.specs.Causes.{maxRecords};
 ghost use Rattle.k2.specs.Sizes.{rowsWords};
 ghost use Rattle.k2.specs.Bits.{bitAt};
 ghost use Rattle.k2.specs.PairSets.{Cells, IsSet, union};
-ghost use Rattle.k2.specs.Trees.{treeWords, treeUnit};
+ghost use Rattle.k2.specs.Trees.{treeWords};
 ghost use Rattle.rows.specs.Rows.{flat};
 ghost use Rattle.rows.specs.RowSets.{crossedWords};
 ghost use Rattle.packing.specs.Senses.{sensed, opposite};

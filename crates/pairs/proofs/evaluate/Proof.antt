@@ -6,6 +6,7 @@ use native.Mathlib.Omega.{arith}
 use mathlib.Core.Path.{_≡_, refl, sym, _∙_, subst}
 use Prim.Native.Nat.{ℕ, _+_, _-_, _≤_}
 use lib.ListN.{length}
+use Rattle.pairs.specs.declared.Stack.{Stack}
 use Rattle.pairs.specs.Steps.{Going}
 use Rattle.pairs.proofs.RunLaws.{coded-some, going-begins, going-ready, going-more}
 use Rattle.pairs.proofs.evaluate.Statement.{statement}

@@ -11,6 +11,7 @@ use lib.Seq.{drop-cons}
 use Rattle.paths.specs.Expressions.{Expr}
 use Rattle.paths.specs.Verdicts.{InLimits}
 use Rattle.reader.specs.Code.{code, value}
+use Rattle.tables.specs.declared.Stack.{Stack}
 use Rattle.tables.specs.Builds.{parts, build, Next, Alone}
 use Rattle.tables.proofs.RunLaws.{next-none, holds-none, at-end, alone-top}
 use Rattle.tables.proofs.built.Statement.{statement}
