@@ -1,8 +1,7 @@
 -- `next_of_use` looks at one link after the other. The loop's invariant: of the links passed no letter enters a state (`NoUse`). The measure is what is left of
 -- the links. Assumes nothing.
-use mathlib.Core.List.{List}
 use mathlib.Core.Path.{_≡_}
-use Prim.Native.Nat.{ℕ, _-_, _≤_}
+use Prim.Native.Nat.{_-_, _≤_}
 use native.Mathlib.Omega.{arith}
 use lib.ListN.{length}
 use Rattle.arcs.specs.Arcs.{NoUse}
@@ -10,20 +9,14 @@ use Rattle.arcs.proofs.CrossingLaws.{no-use-none, no-use-more}
 use Rattle.arcs.proofs.next_of_use.Statement.{statement}
 use Rattle.arcs.proofs.next_of_use.Tie as tie
 
--- what holds whenever the loop is at its head
-record Loop (links enter : List ℕ) (at i : ℕ) : Type 0 where
-  low-end : at ≤ i
-  inside : i ≤ length links
-  no-use : NoUse links enter at i
-
 abbrev Inv-loop : tie.InvT-loop
-Inv-loop links enter at i₀ i = Loop links enter at i
+Inv-loop links enter at i₀ i = (at ≤ i) × (i ≤ length links) × NoUse links enter at i
 
 abbrev μ-loop : tie.MeasureT-loop
 μ-loop links enter at i₀ i = length links - i
 
 loop-holds : tie.Need-loop-holds Inv-loop μ-loop
-loop-holds c = record { low-end = omega arith; inside = c .pre .0; no-use = no-use-none _ _ _ }
+loop-holds c = (omega arith, c .pre .0, no-use-none _ _ _)
 
 returns : tie.Need-returns Inv-loop μ-loop
 returns c = c .before .before .before .before .loop .inv
@@ -34,12 +27,7 @@ returns-2 c = c .before .before .before .before .before .before .loop .inv
 loop-again : tie.Need-loop-again Inv-loop μ-loop
 loop-again c =
     let at-loop = c .before .before .before .before .before .before in
-    let v = at-loop .loop .inv in
-    record {
-      low-end = omega arith;
-      inside = omega arith;
-      no-use = no-use-more (v .no-use) (c .before .before .if1 .left) (c .if2 .left);
-    }
+    let v = at-loop .loop .inv in (omega arith, omega arith, no-use-more (v .2) (c .before .before .if1 .left) (c .if2 .left))
 
 returns-3 : tie.Need-returns-3 Inv-loop μ-loop
 returns-3 c =
