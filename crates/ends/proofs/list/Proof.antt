@@ -27,6 +27,16 @@ Inv-loop seen states n out₀ t₀ y₀ out t y = Loop seen states n out₀ out 
 abbrev μ-loop : tie.MeasureT-loop
 μ-loop seen states n out₀ t₀ y₀ out t y = n - y
 
+-- The places that the needs come back to.
+abbrev start-of-loop : tie.At-loop Inv-loop μ-loop → tie.Start Inv-loop μ-loop
+start-of-loop p = p .before .before .before
+
+abbrev start-of-write : tie.After-write Inv-loop μ-loop → tie.Start Inv-loop μ-loop
+start-of-write p = start-of-loop (p .before .before .before .before)
+
+abbrev loop-of-write : tie.After-write Inv-loop μ-loop → tie.At-loop Inv-loop μ-loop
+loop-of-write p = p .before .before .before .before
+
 loop-holds : tie.Need-loop-holds Inv-loop μ-loop
 unfolding places
 loop-holds c = record { as-long = refl; inside = omega arith; t-is = refl; shown = shown-none _ }
@@ -35,10 +45,10 @@ mul-write : tie.Need-mul-write Inv-loop μ-loop
 mul-write c = omega (arith, c .before .before .before .before .before .pre .1)
 
 shared-slice-read-write : tie.Need-shared-slice-read-write Inv-loop μ-loop
-shared-slice-read-write c = omega (arith, c .before .before .before .before .before .before .pre .0)
+shared-slice-read-write c = omega (arith, start-of-loop (c .before .before .before) .pre .0)
 
 cast-write : tie.Need-cast-write Inv-loop μ-loop
-cast-write c = omega (arith, c .before .before .before .before .before .before .pre .1)
+cast-write c = omega (arith, start-of-loop (c .before .before .before) .pre .1)
 
 write-requires : tie.Need-write-requires Inv-loop μ-loop
 write-requires c κs =
@@ -47,13 +57,13 @@ write-requires c κs =
     let h = length-places (meets (start .args .seen .now) (start .args .states)) (at-loop .loop .y) in omega (arith, at-loop .loop .inv .t-is, start .pre .1)
 
 add-y : tie.Need-add-y Inv-loop μ-loop
-add-y c = omega (arith, c .before .before .before .before .before .before .before .before .before .pre .1)
+add-y c = omega (arith, start-of-write (c .before .before) .pre .1)
 
 loop-again : tie.Need-loop-again Inv-loop μ-loop
 unfolding meets
 loop-again c =
-    let l = c .before .before .before .before .before .before .loop in
-    let s = c .before .before .before .before .before .before .before .before .before .args in
+    let l = loop-of-write (c .before .before) .loop in
+    let s = start-of-write (c .before .before) .args in
     let W = c .before .before .write in
     let o = W .ensures (places (meets (s .seen .now) (s .states)) (l .y)) (s .out .now) (sym (l .inv .t-is)) (sym (l .inv .as-long)) (l .inv .shown) in
     let next = places-next (meets (s .seen .now) (s .states)) (l .y) in

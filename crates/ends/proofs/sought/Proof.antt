@@ -16,9 +16,16 @@ use Rattle.ends.proofs.AskLaws.{ends-none, ends-seen}
 use Rattle.ends.proofs.sought.Statement.{statement}
 use Rattle.ends.proofs.sought.Tie as tie
 
+-- The places that the needs come back to.
+abbrev start-of-then1 : tie.Then1 → tie.Start
+start-of-then1 p = let at-shared-slice-known = p .before .before .before .before .before in at-shared-slice-known .before
+
+abbrev start-of-tables-of : tie.After-tables-of → tie.Start
+start-of-tables-of p = let at-shared-slice-known2 = p .before .before .before .before .before in at-shared-slice-known2 .before .before
+
 returns : tie.Need-returns
 returns c =
-    let start = c .before .before .before .before .before .before in
+    let start = start-of-then1 c in
     let a = start .args in
     let p = start .pre in (
       [],
@@ -36,7 +43,7 @@ returns-2 : tie.Need-returns-2
 returns-2 c =
     let after-reached = c .before .before .before .before .before in
     let after-tables-of = after-reached .before .before .before .before .before in
-    let start = after-tables-of .before .before .before .before .before .before .before in
+    let start = start-of-tables-of after-tables-of in
     let a = start .args in
     let p = start .pre in
     let T = after-tables-of .tables-of in

@@ -27,6 +27,16 @@ Inv-loop cells masks n anchors row records₀ x₀ records x = Loop cells masks 
 abbrev μ-loop : tie.MeasureT-loop
 μ-loop cells masks n anchors row records₀ x₀ records x = n - x
 
+-- The places that the needs come back to.
+abbrev start-of-loop : tie.At-loop Inv-loop μ-loop → tie.Start Inv-loop μ-loop
+start-of-loop p = p .before .before .before .before .before
+
+abbrev start-of-joins-some : tie.After-joins-some Inv-loop μ-loop → tie.Start Inv-loop μ-loop
+start-of-joins-some p = start-of-loop (p .before .before .before)
+
+abbrev start-of-loop-end : tie.After-loop Inv-loop μ-loop → tie.Start Inv-loop μ-loop
+start-of-loop-end p = start-of-loop (p .before)
+
 record-row-requires : tie.Need-record-row-requires Inv-loop μ-loop
 record-row-requires c κs y h =
     let start = c .before .before .before in
@@ -44,7 +54,7 @@ loop-holds c =
 
 joins-some-requires : tie.Need-joins-some-requires Inv-loop μ-loop
 joins-some-requires c κs =
-    let P = c .before .before .before .before .before .before .before .pre in
+    let P = start-of-loop (c .before .before) .pre in
     let long = c .before .before .before .record-row .ensures .0 in
     record { held = P .0; masked = P .1; inside = c .before .loop-test .taken; row-long = omega (arith, long) }
 
@@ -54,7 +64,7 @@ array-write-records c = omega (arith, c .before .before .before .loop .inv .n-mo
 loop-again : tie.Need-loop-again Inv-loop μ-loop
 loop-again c =
     let l = c .before .before .before .loop in
-    let start = c .before .before .before .before .before .before .before .before in
+    let start = start-of-joins-some c in
     let a = start .args in
     let row = c .before .before .before .before .record-row in
     let m = c .joins-some in
@@ -71,7 +81,7 @@ loop-again c =
 
 returns : tie.Need-returns Inv-loop μ-loop
 returns c = let l = c .before .loop in
-    let a = c .before .before .before .before .before .before .args in
+    let a = start-of-loop-end c .args in
     let e : l .x ≡ a .n = omega arith in
     (l .inv .records-long, λ y h. l .inv .reached y (omega arith))
 

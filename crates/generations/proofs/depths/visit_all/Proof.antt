@@ -24,6 +24,19 @@ Inv-loop links n depths₀ index y₀ depths y = Loop links n depths y
 abbrev μ-loop : tie.MeasureT-loop
 μ-loop links n depths₀ index y₀ depths y = n - y
 
+-- The places that the needs come back to.
+abbrev start-of-loop : tie.At-loop Inv-loop μ-loop → tie.Start Inv-loop μ-loop
+start-of-loop p = let at-index-by-reached = p .before .before in at-index-by-reached .before .before .before .before
+
+abbrev loop-of-visit : tie.After-visit Inv-loop μ-loop → tie.At-loop Inv-loop μ-loop
+loop-of-visit p = p .before .before .before .before
+
+abbrev start-of-visit : tie.After-visit Inv-loop μ-loop → tie.Start Inv-loop μ-loop
+start-of-visit p = start-of-loop (p .before .before .before .before)
+
+abbrev start-of-loop-end : tie.After-loop Inv-loop μ-loop → tie.Start Inv-loop μ-loop
+start-of-loop-end p = start-of-loop (p .before)
+
 index-by-reached-requires : tie.Need-index-by-reached-requires Inv-loop μ-loop
 index-by-reached-requires c κs =
     let small = c .before .before .before .pre .0 in
@@ -40,10 +53,11 @@ loop-holds c =
 
 visit-requires : tie.Need-visit-requires Inv-loop μ-loop
 visit-requires c κs =
-    let at-loop = c .before .before .before in
-    let start = c .before .before .before .before .before .before .before .before .before in
+    let earlier = c .before .before .before in
+    let at-loop = earlier in
+    let start = start-of-loop earlier in
     let l = at-loop .loop in
-    let X = c .before .before .before .before .before .index-by-reached in
+    let X = earlier .before .before .index-by-reached in
     record {
       few = start .pre .0;
       index-long = X .kept .1 .0 ∙ length-replicate {A = ℕ} 9216 0;
@@ -55,21 +69,24 @@ visit-requires c κs =
 
 same-length : tie.Need-same-length Inv-loop μ-loop
 same-length c =
-    let after-visit = c .before .before .before in
-    let at-loop = c .before .before .before .before .before .before .before in
-    let start = c .before .before .before .before .before .before .before .before .before .before .before .before .before in
+    let earlier = c .before .before .before in
+    let after-visit = earlier in
+    let at-loop = loop-of-visit earlier in
+    let start = start-of-visit earlier in
     after-visit .visit .kept .1 .1 .1 .0 ∙ at-loop .loop .inv .depths-long ∙ sym (ap length (start .pre .2) ∙ length-replicate {A = ℕ} 1024 0)
 
 returns : tie.Need-returns Inv-loop μ-loop
 returns c =
-    let after-visit = c .before .before .before in
-    let at-loop = c .before .before .before .before .before .before .before in
+    let earlier = c .before .before .before in
+    let after-visit = earlier in
+    let at-loop = loop-of-visit earlier in
     (λ e. absurd (false≢true e), λ e. settled-loop (at-loop .loop .inv .settled) (after-visit .visit .ensures) (c .if1 .taken))
 
 loop-again : tie.Need-loop-again Inv-loop μ-loop
 loop-again c =
-    let after-visit = c .before .before .before in
-    let at-loop = c .before .before .before .before .before .before .before in
+    let earlier = c .before .before .before in
+    let after-visit = earlier in
+    let at-loop = loop-of-visit earlier in
     record {
       inside = omega arith;
       depths-long = after-visit .visit .kept .1 .1 .1 .0 ∙ at-loop .loop .inv .depths-long;
@@ -78,7 +95,7 @@ loop-again c =
 
 same-length-2 : tie.Need-same-length-2 Inv-loop μ-loop
 same-length-2 c =
-    let start = c .before .before .before .before .before .before .before in
+    let start = start-of-loop-end c in
     c .before .loop .inv .depths-long ∙ sym (ap length (start .pre .2) ∙ length-replicate {A = ℕ} 1024 0)
 
 returns-2 : tie.Need-returns-2 Inv-loop μ-loop

@@ -26,6 +26,10 @@ Inv-loop cells₀ masks₀ n w x₀ b₀ cells masks x b = Loop cells₀ masks�
 abbrev μ-loop : tie.MeasureT-loop
 μ-loop cells₀ masks₀ n w x₀ b₀ cells masks x b = n - x
 
+-- The places that the needs come back to.
+abbrev start-of-loop : tie.At-loop Inv-loop μ-loop → tie.Start Inv-loop μ-loop
+start-of-loop p = p .before .before .before
+
 loop-holds : tie.Need-loop-holds Inv-loop μ-loop
 loop-holds c =
     record { inside = omega arith; b-is = omega arith; cells-as-long = refl; masks-as-long = refl; through = through-none _ _ _ _ _ }
@@ -37,14 +41,16 @@ compose-row-requires c κs =
 
 add-b : tie.Need-add-b Inv-loop μ-loop
 add-b c =
-    let a = c .before .before .before .before .before .before .args in
-    let l = c .before .before .before .loop in
+    let at-loop = c .before .before .before in
+    let a = start-of-loop at-loop .args in
+    let l = at-loop .loop in
     omega (arith, unit-fits (a .n) (a .w) (omega arith) (omega arith), row-inside (l .x) (a .n) (a .w) (l .b) (omega arith) (l .inv .b-is))
 
 loop-again : tie.Need-loop-again Inv-loop μ-loop
 loop-again c =
-    let a = c .before .before .before .before .before .before .args in
-    let l = c .before .before .before .loop in
+    let at-loop = c .before .before .before in
+    let a = start-of-loop at-loop .args in
+    let l = at-loop .loop in
     let nl : a .n ≤ a .w * 64 = omega arith in
     let xl : l .x < a .n = omega arith in
     let e : l .b + a .w ≡ (l .x + 1) * a .w = omega (arith, l .inv .b-is) in

@@ -27,6 +27,16 @@ Inv-loop cells₀ masks₀ n w x unit b mask z₀ cells masks z = Loop cells₀ 
 abbrev μ-loop : tie.MeasureT-loop
 μ-loop cells₀ masks₀ n w x unit b mask z₀ cells masks z = n - z
 
+-- The places that the needs come back to.
+abbrev start-of-loop : tie.At-loop Inv-loop μ-loop → tie.Start Inv-loop μ-loop
+start-of-loop p = let at-next = p .before in at-next .before .before .before .before .before
+
+abbrev merge-of-next2 : tie.After-next2 Inv-loop μ-loop → tie.After-merge Inv-loop μ-loop
+merge-of-next2 p = let at-cells = p .before .before .before .before .before in at-cells .before
+
+abbrev start-of-loop-end : tie.After-loop Inv-loop μ-loop → tie.Start Inv-loop μ-loop
+start-of-loop-end p = start-of-loop (p .before)
+
 mul-unit : tie.Need-mul-unit Inv-loop μ-loop
 mul-unit c = omega (arith, unit-fits (c .before .before .args .n) (c .before .before .args .w) (omega arith) (omega arith))
 
@@ -57,13 +67,13 @@ loop-holds c =
 
 add-merge-2 : tie.Need-add-merge-2 Inv-loop μ-loop
 add-merge-2 c =
-    let start = c .before .before .before .before .before .before .before .before .before .before in
+    let start = start-of-loop (c .before .before .before .before) in
     omega (arith, unit-fits (start .args .n) (start .args .w) (omega arith) (omega arith))
 
 mul-merge : tie.Need-mul-merge Inv-loop μ-loop
 mul-merge c =
     let at-loop = c .before .before .before .before in
-    let start = at-loop .before .before .before .before .before .before in
+    let start = start-of-loop at-loop in
     omega (
       arith,
       unit-fits (start .args .n) (start .args .w) (omega arith) (omega arith),
@@ -73,7 +83,7 @@ mul-merge c =
 add-merge-3 : tie.Need-add-merge-3 Inv-loop μ-loop
 add-merge-3 c =
     let at-loop = c .before .before .before .before in
-    let start = at-loop .before .before .before .before .before .before in
+    let start = start-of-loop at-loop in
     omega (
       arith,
       unit-fits (start .args .n) (start .args .w) (omega arith) (omega arith),
@@ -82,8 +92,9 @@ add-merge-3 c =
 
 merge-requires : tie.Need-merge-requires Inv-loop μ-loop
 merge-requires c κs =
-    let a = c .before .before .before .before .before .before .before .before .before .before .args in
-    let l = c .before .before .before .before .loop in
+    let at-loop = c .before .before .before .before in
+    let a = start-of-loop at-loop .args in
+    let l = at-loop .loop in
     let s = rows-apart (l .z) (a .n) (a .w) (omega arith) in
     record { masked = omega arith; narrow = omega arith; to-fits = omega arith; from-fits = omega (arith, s) }
 
@@ -91,7 +102,7 @@ next-requires-2 : tie.Need-next-requires-2 Inv-loop μ-loop
 next-requires-2 c κs =
     let after-merge = c .before .before .before .before .before in
     let at-loop = after-merge .before .before .before .before .before in
-    let start = at-loop .before .before .before .before .before .before in
+    let start = start-of-loop at-loop in
     let a = start .args in
     let l = at-loop .loop in
     let k : length (after-merge .merge .last .0) ≡ length (l .cells) = after-merge .merge .kept .0 in
@@ -102,9 +113,9 @@ loop-less c = omega (arith, c .next2 .ensures .1 .low)
 
 loop-again : tie.Need-loop-again Inv-loop μ-loop
 loop-again c =
-    let after-merge = c .before .before .before .before .before .before in
+    let after-merge = merge-of-next2 c in
     let at-loop = after-merge .before .before .before .before .before in
-    let start = at-loop .before .before .before .before .before .before in
+    let start = start-of-loop at-loop in
     let a = start .args in
     let l = at-loop .loop in
     let m = after-merge .merge in
@@ -127,7 +138,7 @@ loop-again c =
 
 returns : tie.Need-returns Inv-loop μ-loop
 returns c =
-    let a = c .before .before .before .before .before .before .before .args in
+    let a = start-of-loop-end c .args in
     let l = c .before .loop in
     gathered-all (a .n) (a .w) (a .x) (a .cells .now) (a .masks .now) (omega arith) (omega arith) (l .z) (l .cells) (l .masks) (omega arith) (l .inv .gathered)
 

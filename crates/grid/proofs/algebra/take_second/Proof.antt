@@ -26,14 +26,22 @@ Inv-loop cells₀ masks₀ n w x₀ b₀ cells masks x b = Loop cells₀ masks�
 abbrev μ-loop : tie.MeasureT-loop
 μ-loop cells₀ masks₀ n w x₀ b₀ cells masks x b = n - x
 
+-- The places that the needs come back to.
+abbrev start-of-take-row : tie.After-take-row Inv-loop μ-loop → tie.Start Inv-loop μ-loop
+start-of-take-row p = let at-loop = p .before .before .before .before in at-loop .before .before .before
+
+abbrev loop-of-take-row : tie.After-take-row Inv-loop μ-loop → tie.At-loop Inv-loop μ-loop
+loop-of-take-row p = p .before .before .before .before
+
 loop-holds : tie.Need-loop-holds Inv-loop μ-loop
 loop-holds c =
     record { inside = omega arith; b-is = omega arith; cells-as-long = refl; masks-as-long = refl; through = through-none _ _ _ _ _ }
 
 add-b : tie.Need-add-b Inv-loop μ-loop
 add-b c =
-    let a = c .before .before .before .before .before .before .before .before .before .before .before .args in
-    let l = c .before .before .before .before .before .before .before .before .loop in
+    let earlier = c .before .before .before .before in
+    let a = start-of-take-row earlier .args in
+    let l = loop-of-take-row earlier .loop in
     omega (arith, unit-fits (a .n) (a .w) (omega arith) (omega arith), row-inside (l .x) (a .n) (a .w) (l .b) (omega arith) (l .inv .b-is))
 
 loop-again : tie.Need-loop-again Inv-loop μ-loop

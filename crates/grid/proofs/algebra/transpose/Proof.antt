@@ -23,9 +23,22 @@ Inv-loop cells₀ masks₀ n w x₀ cells masks x = Loop cells₀ masks₀ n w c
 abbrev μ-loop : tie.MeasureT-loop
 μ-loop cells₀ masks₀ n w x₀ cells masks x = n - x
 
+-- The places that the needs come back to.
+abbrev start-of-start-second : tie.After-start-second Inv-loop μ-loop → tie.Start Inv-loop μ-loop
+start-of-start-second p = p .before .before .before .before
+
+abbrev start-second-of-loop : tie.At-loop Inv-loop μ-loop → tie.After-start-second Inv-loop μ-loop
+start-second-of-loop p = p .before .before .before
+
+abbrev start-of-loop : tie.At-loop Inv-loop μ-loop → tie.Start Inv-loop μ-loop
+start-of-loop p = start-of-start-second (p .before .before .before)
+
+abbrev start-second-of-loop-end : tie.After-loop Inv-loop μ-loop → tie.After-start-second Inv-loop μ-loop
+start-second-of-loop-end p = p .before .before .before .before
+
 loop-holds : tie.Need-loop-holds Inv-loop μ-loop
 loop-holds c =
-    let a = c .before .before .before .before .before .before .args in
+    let a = start-of-start-second (c .before .before) .args in
     let s = c .before .before .start-second in
     record {
       inside = omega arith;
@@ -39,13 +52,13 @@ long : (c : tie.After-start-second Inv-loop μ-loop) → length (c .start-second
 long c = c .start-second .kept .0
 
 turn-row-requires : tie.Need-turn-row-requires Inv-loop μ-loop
-turn-row-requires c κs = omega (arith, long (c .before .before .before .before .before .before))
+turn-row-requires c κs = omega (arith, long (start-second-of-loop (c .before .before .before)))
 
 loop-again : tie.Need-loop-again Inv-loop μ-loop
 loop-again c =
     let after-turn-row = c .before .before .before .before in
     let at-loop = after-turn-row .before .before .before .before in
-    let start = at-loop .before .before .before .before .before .before .before in
+    let start = start-of-loop at-loop in
     let a = start .args in
     let l = at-loop .loop in
     let m = after-turn-row .turn-row in
@@ -57,7 +70,7 @@ loop-again c =
     }
 
 take-second-requires : tie.Need-take-second-requires Inv-loop μ-loop
-take-second-requires c κs = omega (arith, long (c .before .before .before .before .before .before))
+take-second-requires c κs = omega (arith, long (start-second-of-loop-end (c .before .before)))
 
 same-length : tie.Need-same-length Inv-loop μ-loop
 same-length c =

@@ -29,6 +29,16 @@ Inv-loop cells₀ masks₀ n w x unit b mask y₀ cells masks y = Loop cells₀ 
 abbrev μ-loop : tie.MeasureT-loop
 μ-loop cells₀ masks₀ n w x unit b mask y₀ cells masks y = n - y
 
+-- The places that the needs come back to.
+abbrev start-of-loop : tie.At-loop Inv-loop μ-loop → tie.Start Inv-loop μ-loop
+start-of-loop p = let at-next = p .before in at-next .before .before .before .before .before
+
+abbrev put-of-next2 : tie.After-next2 Inv-loop μ-loop → tie.After-put Inv-loop μ-loop
+put-of-next2 p = let at-cells = p .before .before .before .before .before in at-cells .before
+
+abbrev start-of-loop-end : tie.After-loop Inv-loop μ-loop → tie.Start Inv-loop μ-loop
+start-of-loop-end p = start-of-loop (p .before)
+
 mul-unit : tie.Need-mul-unit Inv-loop μ-loop
 mul-unit c = let a = c .before .before .args in omega (arith, unit-fits (a .n) (a .w) (omega arith) (omega arith))
 
@@ -56,24 +66,27 @@ loop-holds c =
 
 mul-put : tie.Need-mul-put Inv-loop μ-loop
 mul-put c =
-    let a = c .before .before .before .before .before .before .before .before .before .args in
-    omega (arith, unit-fits (a .n) (a .w) (omega arith) (omega arith), rows-apart (c .before .before .before .loop .y) (a .n) (a .w) (omega arith))
+    let at-loop = c .before .before .before in
+    let a = start-of-loop at-loop .args in
+    omega (arith, unit-fits (a .n) (a .w) (omega arith) (omega arith), rows-apart (at-loop .loop .y) (a .n) (a .w) (omega arith))
 
 add-put-2 : tie.Need-add-put-2 Inv-loop μ-loop
 add-put-2 c =
-    let a = c .before .before .before .before .before .before .before .before .before .args in
-    omega (arith, unit-fits (a .n) (a .w) (omega arith) (omega arith), rows-apart (c .before .before .before .loop .y) (a .n) (a .w) (omega arith))
+    let at-loop = c .before .before .before in
+    let a = start-of-loop at-loop .args in
+    omega (arith, unit-fits (a .n) (a .w) (omega arith) (omega arith), rows-apart (at-loop .loop .y) (a .n) (a .w) (omega arith))
 
 put-requires : tie.Need-put-requires Inv-loop μ-loop
 put-requires c κs =
-    let a = c .before .before .before .before .before .before .before .before .before .args in
-    (omega arith, omega arith, omega (arith, rows-apart (c .before .before .before .loop .y) (a .n) (a .w) (omega arith)))
+    let at-loop = c .before .before .before in
+    let a = start-of-loop at-loop .args in
+    (omega arith, omega arith, omega (arith, rows-apart (at-loop .loop .y) (a .n) (a .w) (omega arith)))
 
 next-requires-2 : tie.Need-next-requires-2 Inv-loop μ-loop
 next-requires-2 c κs =
     let after-put = c .before .before .before .before .before in
     let at-loop = after-put .before .before .before .before in
-    let start = at-loop .before .before .before .before .before .before in
+    let start = start-of-loop at-loop in
     let a = start .args in
     let k : length (after-put .put .last .0) ≡ length (at-loop .loop .cells) = after-put .put .kept .0 in
     (omega arith, omega (arith, k, rows-apart (a .x) (a .n) (a .w) (omega arith)), omega arith)
@@ -83,9 +96,9 @@ loop-less c = omega (arith, c .next2 .ensures .1 .low)
 
 loop-again : tie.Need-loop-again Inv-loop μ-loop
 loop-again c =
-    let after-put = c .before .before .before .before .before .before in
+    let after-put = put-of-next2 c in
     let at-loop = after-put .before .before .before .before in
-    let start = at-loop .before .before .before .before .before .before in
+    let start = start-of-loop at-loop in
     let a = start .args in
     let l = at-loop .loop in
     let m = after-put .put in
@@ -108,7 +121,7 @@ loop-again c =
 
 returns : tie.Need-returns Inv-loop μ-loop
 returns c =
-    let a = c .before .before .before .before .before .before .before .args in
+    let a = start-of-loop-end c .args in
     let l = c .before .loop in
     turned-all (a .n) (a .w) (a .x) (a .cells .now) (a .masks .now) (l .y) (l .cells) (l .masks) (omega arith) (l .inv .turned)
 

@@ -27,6 +27,10 @@ Inv-loop cells₀ masks₀ n w unit x₀ b₀ cells masks x b = Loop cells₀ ma
 abbrev μ-loop : tie.MeasureT-loop
 μ-loop cells₀ masks₀ n w unit x₀ b₀ cells masks x b = n - x
 
+-- The places that the needs come back to.
+abbrev loop-of-merge : tie.After-merge Inv-loop μ-loop → tie.At-loop Inv-loop μ-loop
+loop-of-merge p = p .before .before .before .before .before
+
 mul-unit : tie.Need-mul-unit Inv-loop μ-loop
 mul-unit c = omega (arith, unit-fits (c .before .before .args .n) (c .before .before .args .w) (omega arith) (omega arith))
 
@@ -55,7 +59,7 @@ merge-requires c κs =
 
 add-b : tie.Need-add-b Inv-loop μ-loop
 add-b c =
-    let at-loop = c .before .before .before .before .before .before .before .before .before in
+    let at-loop = loop-of-merge (c .before .before .before .before) in
     let start = at-loop .before .before .before in
     let l = at-loop .loop in
     omega (

@@ -22,6 +22,10 @@ Inv-loop cells mask w b set₀ words c₀ set c = Loop cells mask w b set₀ set
 abbrev μ-loop : tie.MeasureT-loop
 μ-loop cells mask w b set₀ words c₀ set c = w - c
 
+-- The places that the needs come back to.
+abbrev start-of-above : tie.After-above Inv-loop μ-loop → tie.Start Inv-loop μ-loop
+start-of-above p = let at-lowest = p .before .before .before .before .before in at-lowest .before .before .before
+
 lowest-requires : tie.Need-lowest-requires Inv-loop μ-loop
 lowest-requires c κs = tt
 
@@ -47,7 +51,7 @@ loop-less c = omega (arith, c .above .ensures .low)
 
 loop-again : tie.Need-loop-again Inv-loop μ-loop
 loop-again c =
-    let a = c .before .before .before .before .before .before .before .before .args in
+    let a = start-of-above c .args in
     let l = c .before .before .before .before .loop in
     let L = c .above .ensures in
     record {

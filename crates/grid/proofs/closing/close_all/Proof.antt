@@ -32,9 +32,25 @@ Inv-loop cells₀ masks₀ n w filled marks₀ stack₀ x₀ cells masks marks s
 abbrev μ-loop : tie.MeasureT-loop
 μ-loop cells₀ masks₀ n w filled marks₀ stack₀ x₀ cells masks marks stack x = n - x
 
+-- The places that the needs come back to.
+abbrev start-of-next : tie.After-next Inv-loop μ-loop → tie.Start Inv-loop μ-loop
+start-of-next p = let at-occupied = p .before .before .before .before in at-occupied .before .before .before .before
+
+abbrev start-of-loop : tie.At-loop Inv-loop μ-loop → tie.Start Inv-loop μ-loop
+start-of-loop p = start-of-next (p .before)
+
+abbrev close-record-of-next2 : tie.After-next2 Inv-loop μ-loop → tie.After-close-record Inv-loop μ-loop
+close-record-of-next2 p = let at-masks = p .before .before .before .before .before in at-masks .before .before .before
+
+abbrev loop-of-close-record : tie.After-close-record Inv-loop μ-loop → tie.At-loop Inv-loop μ-loop
+loop-of-close-record p = let at-in-loop = p .before .before .before .before .before in at-in-loop .before
+
+abbrev start-of-loop-end : tie.After-loop Inv-loop μ-loop → tie.Start Inv-loop μ-loop
+start-of-loop-end p = start-of-loop (p .before)
+
 loop-holds : tie.Need-loop-holds Inv-loop μ-loop
 loop-holds c =
-    let start = c .before .before .before .before .before .before .before .before in
+    let start = start-of-next c in
     let a = start .args in
     let N = c .next .ensures in
     record {
@@ -52,16 +68,16 @@ loop-holds c =
 close-record-requires : tie.Need-close-record-requires Inv-loop μ-loop
 close-record-requires c κs =
     let at-loop = c .before .before .before .before .before in
-    let start = at-loop .before .before .before .before .before .before .before .before .before in
+    let start = start-of-loop at-loop in
     let l = at-loop .loop .inv in
     let t : at-loop .loop .x < start .args .n = omega arith in
     omega (arith, start .pre, l .cells-as-long, l .masks-as-long, l .marks-long, l .stack-long, t)
 
 -- each row is closed, or as it was
-half : (c : tie.At-loop Inv-loop μ-loop) → let a = c .before .before .before .before .before .before .before .before .before .args in
+half : (c : tie.At-loop Inv-loop μ-loop) → let a = start-of-loop c .args in
     Half (a .n) (first (a .n) (a .w) (a .cells .now) (a .masks .now)) (bitAt (c .loop .marks)) (firstRows (a .w) (c .loop .cells) (c .loop .masks))
 half c =
-    let start = c .before .before .before .before .before .before .before .before .before in
+    let start = start-of-loop c in
     let a = start .args in
     c .loop .inv .onward .half _ (first-set (a .n) (a .w) (a .cells .now) (a .masks .now))
     (half-none (a .n) (a .w) (a .cells .now) (a .masks .now) _ _ (start .pre .small)
@@ -72,9 +88,9 @@ loop-less c = omega (arith, c .next2 .ensures .low, c .next2 .ensures .high)
 
 loop-again : tie.Need-loop-again Inv-loop μ-loop
 loop-again c =
-    let after-close-record = c .before .before .before .before .before .before .before .before in
-    let at-loop = after-close-record .before .before .before .before .before .before in
-    let start = at-loop .before .before .before .before .before .before .before .before .before in
+    let after-close-record = close-record-of-next2 c in
+    let at-loop = loop-of-close-record after-close-record in
+    let start = start-of-loop at-loop in
     let a = start .args in
     let l = at-loop .loop in
     let m = after-close-record .close-record in
@@ -100,7 +116,7 @@ same-length-2 c = c .before .loop .inv .masks-as-long
 
 returns : tie.Need-returns Inv-loop μ-loop
 returns c =
-    let a = c .before .before .before .before .before .before .before .before .before .before .args in
+    let a = start-of-loop-end c .args in
     let l = c .before .loop in (
       half-all (a .n) (a .w) (first (a .n) (a .w) (a .cells .now) (a .masks .now)) (bitAt (l .marks)) (l .cells) (l .masks)
           (first-set (a .n) (a .w) (a .cells .now) (a .masks .now)) (bit-lt (l .marks)) (half (c .before)) (λ u h. l .inv .settled u (omega arith)),

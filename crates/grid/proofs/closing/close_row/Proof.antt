@@ -33,10 +33,53 @@ Inv-loop cells₀ masks₀ n w x marks seen₀ z₀ cells masks seen z = Loop ce
 abbrev μ-loop : tie.MeasureT-loop
 μ-loop cells₀ masks₀ n w x marks seen₀ z₀ cells masks seen z = onesBelow (λ y. 1 - bitAt seen y) n
 
+-- The places that the needs come back to.
+abbrev start-of-fresh : tie.After-fresh Inv-loop μ-loop → tie.Start Inv-loop μ-loop
+start-of-fresh p = let at-empty-records = p .before .before .before .before in at-empty-records .before .before .before .before
+
+abbrev start-of-loop : tie.At-loop Inv-loop μ-loop → tie.Start Inv-loop μ-loop
+start-of-loop p = start-of-fresh (p .before)
+
+abbrev start-of-lead-on : tie.After-lead-on Inv-loop μ-loop → tie.Start Inv-loop μ-loop
+start-of-lead-on p = start-of-loop (p .before .before .before .before .before)
+
+abbrev lead-on-of-slice-known6 : tie.After-slice-known6 Inv-loop μ-loop → tie.After-lead-on Inv-loop μ-loop
+lead-on-of-slice-known6 p = let at-cells = p .before .before .before .before .before in at-cells .before
+
+abbrev lead-on-of-leads-back : tie.After-leads-back Inv-loop μ-loop → tie.After-lead-on Inv-loop μ-loop
+lead-on-of-leads-back p = lead-on-of-slice-known6 (p .before)
+
+abbrev start-of-bit : tie.After-bit Inv-loop μ-loop → tie.Start Inv-loop μ-loop
+start-of-bit p = start-of-loop (p .before .before)
+
+abbrev leads-back-of-seen2 : tie.After-seen2 Inv-loop μ-loop → tie.After-leads-back Inv-loop μ-loop
+leads-back-of-seen2 p = p .before .before .before .before
+
+abbrev loop-of-lead-on : tie.After-lead-on Inv-loop μ-loop → tie.At-loop Inv-loop μ-loop
+loop-of-lead-on p = p .before .before .before .before .before
+
+abbrev mark-of-fresh-arg2 : tie.After-fresh-arg2 Inv-loop μ-loop → tie.After-mark Inv-loop μ-loop
+mark-of-fresh-arg2 p = p .before .before
+
+abbrev mark-of-slice-known8 : tie.After-slice-known8 Inv-loop μ-loop → tie.After-mark Inv-loop μ-loop
+mark-of-slice-known8 p = p .before .before .before
+
+abbrev leads-back-of-mark : tie.After-mark Inv-loop μ-loop → tie.After-leads-back Inv-loop μ-loop
+leads-back-of-mark p = p .before .before .before .before .before
+
+abbrev lead-on-of-mark : tie.After-mark Inv-loop μ-loop → tie.After-lead-on Inv-loop μ-loop
+lead-on-of-mark p = lead-on-of-leads-back (p .before .before .before .before .before)
+
+abbrev bit-of-lead-on : tie.After-lead-on Inv-loop μ-loop → tie.After-bit Inv-loop μ-loop
+bit-of-lead-on p = p .before .before .before
+
+abbrev start-of-loop-end : tie.After-loop Inv-loop μ-loop → tie.Start Inv-loop μ-loop
+start-of-loop-end p = start-of-loop (p .before)
+
 loop-holds : tie.Need-loop-holds Inv-loop μ-loop
 loop-holds c =
     let E = c .before .before .before .before .empty-records in
-    let start = c .before .before .before .before .before .before .before .before in
+    let start = start-of-fresh c in
     let a = start .args in
     record {
       cells-as-long = refl;
@@ -56,12 +99,12 @@ lead-on-requires c κs = let l = c .before .before .before .before .loop in omeg
 -- the lengths, and that row z ends before the words do
 after : (c : tie.After-lead-on Inv-loop μ-loop)
     → let at-loop = c .before .before .before .before .before in
-    let start = at-loop .before .before .before .before .before .before .before .before .before in
+    let start = start-of-loop at-loop in
     let a = start .args in
     (length (c .lead-on .last .0) ≡ length (a .cells .now)) × (length (c .lead-on .last .1 .0) ≡ length (a .masks .now))
     × (a .n * a .w ≤ 16384) × (at-loop .loop .z * a .w + a .w ≤ a .n * a .w)
 after c =
-    let a = c .before .before .before .before .before .before .before .before .before .before .before .before .before .before .args in
+    let a = start-of-lead-on c .args in
     let l = c .before .before .before .before .before .loop in
     let o = c .lead-on in (
       o .kept .0 ∙ l .inv .cells-as-long,
@@ -71,25 +114,25 @@ after c =
     )
 
 slice-read-leads-back : tie.Need-slice-read-leads-back Inv-loop μ-loop
-slice-read-leads-back c = omega (arith, after (c .before .before .before .before .before .before) .1)
+slice-read-leads-back c = omega (arith, after (lead-on-of-slice-known6 c) .1)
 
 mul-leads-back-2 : tie.Need-mul-leads-back-2 Inv-loop μ-loop
-mul-leads-back-2 c = let f = after (c .before .before .before .before .before .before) in omega (arith, f .2, f .3)
+mul-leads-back-2 c = let f = after (lead-on-of-slice-known6 c) in omega (arith, f .2, f .3)
 
 leads-back-requires : tie.Need-leads-back-requires Inv-loop μ-loop
-leads-back-requires c κs = let f = after (c .before .before .before .before .before .before) in (omega arith, omega (arith, f .0, f .3))
+leads-back-requires c κs = let f = after (lead-on-of-slice-known6 c) in (omega arith, omega (arith, f .0, f .3))
 
 same-length : tie.Need-same-length Inv-loop μ-loop
-same-length c = after (c .before .before .before .before .before .before .before .before) .0
+same-length c = after (lead-on-of-leads-back (c .before)) .0
 
 same-length-2 : tie.Need-same-length-2 Inv-loop μ-loop
-same-length-2 c = after (c .before .before .before .before .before .before .before .before) .1
+same-length-2 c = after (lead-on-of-leads-back (c .before)) .1
 
 returns : tie.Need-returns Inv-loop μ-loop
 returns c =
-    let after-lead-on = c .before .before .before .before .before .before .before .before in
+    let after-lead-on = lead-on-of-leads-back (c .before) in
     let after-bit = after-lead-on .before .before .before in
-    let start = after-bit .before .before .before .before .before .before .before .before .before .before .before in
+    let start = start-of-bit after-bit in
     let a = start .args in
     let l = after-bit .before .before .loop in
     let zl : l .z < a .n = omega arith in
@@ -99,19 +142,19 @@ returns c =
     (sym (after-bit .bit .ensures) ∙ back .0) (unfold firstRows in (back .1))
 
 slice-read-mark : tie.Need-slice-read-mark Inv-loop μ-loop
-slice-read-mark c = omega (arith, after (c .before .before .before .before .before .before .before .before .before .before) .1)
+slice-read-mark c = omega (arith, after (lead-on-of-leads-back (c .before .before .before)) .1)
 
 slice-aggregate-mark : tie.Need-slice-aggregate-mark Inv-loop μ-loop
 slice-aggregate-mark c =
-    let earlier = c .before .before .before .before .before .before .before .before in
-    let at-loop = earlier .before .before .before .before .before .before .before .before in
+    let earlier = leads-back-of-seen2 c .before .before .before .before in
+    let at-loop = loop-of-lead-on (earlier .before .before .before) in
     let l = at-loop .loop in omega (arith, l .inv .seen-long)
 
 mark-requires : tie.Need-mark-requires Inv-loop μ-loop
 mark-requires c κs =
-    let after-lead-on = c .before .before .before .before .before .before .before .before .before .before .before in
+    let after-lead-on = lead-on-of-leads-back (c .before .before .before .before) in
     let at-loop = after-lead-on .before .before .before .before .before in
-    let p = at-loop .before .before .before .before .before .before .before .before .before .pre .0 in
+    let p = start-of-loop at-loop .pre .0 in
     let f = after after-lead-on in let l = at-loop .loop in
     record {
       narrow = p .narrow;
@@ -122,9 +165,9 @@ mark-requires c κs =
 
 mul-fresh-2 : tie.Need-mul-fresh-2 Inv-loop μ-loop
 mul-fresh-2 c =
-    let earlier = c .before .before .before .before .before .before in
-    let after-lead-on = earlier .before .before .before .before .before .before .before .before in
-    let start = after-lead-on .before .before .before .before .before .before .before .before .before .before .before .before .before .before in
+    let earlier = mark-of-fresh-arg2 c .before .before .before .before in
+    let after-lead-on = lead-on-of-leads-back (earlier .before) in
+    let start = start-of-lead-on after-lead-on in
     omega (arith, start .pre .0 .small, start .pre .1)
 
 -- record x has a mask still
@@ -133,17 +176,17 @@ has-mask x n k m h l e = omega arith
 
 slice-read-fresh-2 : tie.Need-slice-read-fresh-2 Inv-loop μ-loop
 slice-read-fresh-2 c =
-    let earlier = c .before .before .before .before .before .before .before in
-    let after-lead-on = earlier .before .before .before .before .before .before .before .before in
+    let earlier = mark-of-slice-known8 c .before .before .before .before in
+    let after-lead-on = lead-on-of-leads-back (earlier .before) in
     let at-loop = after-lead-on .before .before .before .before .before in
-    let start = at-loop .before .before .before .before .before .before .before .before .before in
+    let start = start-of-loop at-loop in
     has-mask _ _ _ _ (start .pre .1) (start .pre .0 .marks) (after after-lead-on .1)
 
 -- what is seen then
 long : (c : tie.After-mark Inv-loop μ-loop) → length (c .mark .last .1 .1 .1 .1 .1 .0) ≡ 16
 long c =
-    let earlier = c .before .before .before .before .before .before .before .before in
-    let at-loop = earlier .before .before .before .before .before .before .before .before .before in
+    let earlier = leads-back-of-mark c .before .before .before in
+    let at-loop = loop-of-lead-on (earlier .before .before .before .before) in
     c .mark .kept .1 .1 .1 .1 .1 .0 ∙ at-loop .loop .inv .seen-long
 
 slice-aggregate-fresh-2 : tie.Need-slice-aggregate-fresh-2 Inv-loop μ-loop
@@ -152,32 +195,32 @@ slice-aggregate-fresh-2 c = omega (arith, long (c .before .before .before .befor
 fresh-requires-2 : tie.Need-fresh-requires-2 Inv-loop μ-loop
 fresh-requires-2 c κs =
     let after-mark = c .before .before .before .before in
-    let after-lead-on = after-mark .before .before .before .before .before .before .before .before .before .before .before .before in
-    let start = after-lead-on .before .before .before .before .before .before .before .before .before .before .before .before .before .before in
+    let after-lead-on = lead-on-of-mark after-mark in
+    let start = start-of-lead-on after-lead-on in
     let p = start .pre in
     let f = after after-lead-on in
     record { space = omega (arith, f .0, p .0); inside = p .1; seen-long = omega (arith, long after-mark); closed-long = omega (arith, p .2) }
 
 marked : (c : tie.After-mark Inv-loop μ-loop)
-    → let after-lead-on = c .before .before .before .before .before .before .before .before .before .before .before .before in
+    → let after-lead-on = lead-on-of-mark c in
     let at-loop = after-lead-on .before .before .before .before .before in
-    let start = at-loop .before .before .before .before .before .before .before .before .before in
+    let start = start-of-loop at-loop in
     let a = start .args in let l = at-loop .loop in
     (y : ℕ) → y < a .w * 64 → bitAt (c .mark .last .1 .1 .1 .1 .1 .0) y
     ≡ max (put (l .z) 1 (bitAt (l .seen)) y) (pick (eqb (bitAt (a .marks .now) (l .z)) 1)
     (firstRows (a .w) (after-lead-on .lead-on .last .0) (after-lead-on .lead-on .last .1 .0) (l .z) y) 0)
 unfolding firstRows
 marked c =
-    let earlier = c .before .before .before .before .before .before .before in
-    let after-bit = earlier .before .before .before .before .before .before .before .before in
+    let earlier = leads-back-of-mark c .before .before in
+    let after-bit = bit-of-lead-on (earlier .before .before .before .before .before) in
     rw (after-bit .bit .ensures) at (c .mark .ensures)
 
 loop-less : tie.Need-loop-less Inv-loop μ-loop
 loop-less c =
     let after-mark = c .before .before .before .before .before in
-    let after-lead-on = after-mark .before .before .before .before .before .before .before .before .before .before .before .before in
+    let after-lead-on = lead-on-of-mark after-mark in
     let at-loop = after-lead-on .before .before .before .before .before in
-    let start = at-loop .before .before .before .before .before .before .before .before .before in
+    let start = start-of-loop at-loop in
     let a = start .args in
     let l = at-loop .loop in
     let zl : l .z < a .n = omega arith in
@@ -188,9 +231,9 @@ loop-less c =
 loop-again : tie.Need-loop-again Inv-loop μ-loop
 loop-again c =
     let after-mark = c .before .before .before .before .before in
-    let after-lead-on = after-mark .before .before .before .before .before .before .before .before .before .before .before .before in
+    let after-lead-on = lead-on-of-mark after-mark in
     let at-loop = after-lead-on .before .before .before .before .before in
-    let start = at-loop .before .before .before .before .before .before .before .before .before in
+    let start = start-of-loop at-loop in
     let a = start .args in
     let l = at-loop .loop in
     let zl : l .z < a .n = omega arith in
@@ -213,7 +256,7 @@ same-length-4 c = c .before .loop .inv .masks-as-long
 
 returns-2 : tie.Need-returns-2 Inv-loop μ-loop
 returns-2 c =
-    let start = c .before .before .before .before .before .before .before .before .before .before in
+    let start = start-of-loop-end c in
     let a = start .args in
     let l = c .before .loop in
     row-done (a .n) (a .w) (a .x) (l .z) _ (bitAt (l .seen)) (a .cells .now) (a .masks .now) (l .cells) (l .masks)

@@ -26,6 +26,20 @@ Inv-loop cells₀ masks₀ n w marks₀ stack₀ depth₀ step₀ cells masks ma
 abbrev μ-loop : tie.MeasureT-loop
 μ-loop cells₀ masks₀ n w marks₀ stack₀ depth₀ step₀ cells masks marks stack depth step = 2048 - step
 
+-- The places that the needs come back to.
+abbrev loop-of-advance-arg4 : tie.After-advance-arg4 Inv-loop μ-loop → tie.At-loop Inv-loop μ-loop
+loop-of-advance-arg4 p = let at-in-loop = p .before .before .before .before .before in at-in-loop .before
+
+abbrev loop-of-slice-known8 : tie.After-slice-known8 Inv-loop μ-loop → tie.At-loop Inv-loop μ-loop
+loop-of-slice-known8 p =
+    let at-masks = p .before .before .before .before .before in
+    let at-advance = at-masks .before .before .before in
+    let at-else1 = at-advance .before .before .before .before .before in
+    at-else1 .before .before
+
+abbrev advance-of-slice-known8 : tie.After-slice-known8 Inv-loop μ-loop → tie.After-advance Inv-loop μ-loop
+advance-of-slice-known8 p = let at-masks = p .before .before .before .before .before in at-masks .before .before .before
+
 loop-holds : tie.Need-loop-holds Inv-loop μ-loop
 loop-holds c =
     record {
@@ -54,14 +68,14 @@ returns c = c .before .before .loop .inv .onward
 
 advance-requires : tie.Need-advance-requires Inv-loop μ-loop
 advance-requires c κs =
-    let at-loop = c .before .before .before .before .before .before in
+    let at-loop = loop-of-advance-arg4 c in
     let start = at-loop .before .before .before .before .before in
     let p = start .pre in let l = at-loop .loop .inv in omega (arith, p, l .depth-most, l .cells-as-long, l .masks-as-long, l .marks-as-long, l .stack-as-long)
 
 loop-again : tie.Need-loop-again Inv-loop μ-loop
 loop-again c =
-    let l = c .before .before .before .before .before .before .before .before .before .before .before .before .before .before .before .loop in
-    let m = c .before .before .before .before .before .before .before .before .advance in
+    let l = loop-of-slice-known8 c .loop in
+    let m = advance-of-slice-known8 c .advance in
     record {
       depth-most = omega (arith, l .inv .depth-most, m .ensures .0);
       cells-as-long = m .kept .0 ∙ l .inv .cells-as-long;

@@ -24,6 +24,10 @@ Inv-loop cells masks n w t₀ x₀ t x = Loop cells masks n w t x
 abbrev μ-loop : tie.MeasureT-loop
 μ-loop cells masks n w t₀ x₀ t x = n - x
 
+-- The places that the needs come back to.
+abbrev start-of-count-row : tie.After-count-row Inv-loop μ-loop → tie.Start Inv-loop μ-loop
+start-of-count-row p = let at-loop = p .before .before .before in at-loop .before .before .before
+
 loop-holds : tie.Need-loop-holds Inv-loop μ-loop
 loop-holds c =
     let a = c .before .before .args in
@@ -38,7 +42,7 @@ add-t c = omega (arith, c .before .before .before .loop .inv .t-most, c .count-r
 
 loop-again : tie.Need-loop-again Inv-loop μ-loop
 loop-again c =
-    let a = c .before .before .before .before .before .before .args in
+    let a = start-of-count-row c .args in
     let l = c .before .before .before .loop in
     let R = c .count-row in
     record {

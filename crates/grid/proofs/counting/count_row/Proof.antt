@@ -25,6 +25,10 @@ Inv-loop cells mask n w x words b s₀ c₀ s c = Loop cells mask n w x s c
 abbrev μ-loop : tie.MeasureT-loop
 μ-loop cells mask n w x words b s₀ c₀ s c = w - c
 
+-- The places that the needs come back to.
+abbrev start-of-above : tie.After-above Inv-loop μ-loop → tie.Start Inv-loop μ-loop
+start-of-above p = let at-loop = p .before .before .before .before .before in at-loop .before .before .before
+
 mul-b : tie.Need-mul-b Inv-loop μ-loop
 mul-b c =
     let a = c .before .args in
@@ -66,7 +70,7 @@ loop-less c = omega (arith, c .above .ensures .low)
 
 loop-again : tie.Need-loop-again Inv-loop μ-loop
 loop-again c =
-    let a = c .before .before .before .before .before .before .before .before .args in
+    let a = start-of-above c .args in
     let l = c .before .before .before .before .before .loop in
     let W = c .before .before .cut in
     let K = c .before .count in

@@ -27,6 +27,13 @@ Inv-loop cells masks n w out₀ t₀ x₀ out t x = Loop cells masks n w out₀ 
 abbrev μ-loop : tie.MeasureT-loop
 μ-loop cells masks n w out₀ t₀ x₀ out t x = n - x
 
+-- The places that the needs come back to.
+abbrev start-of-list-row : tie.After-list-row Inv-loop μ-loop → tie.Start Inv-loop μ-loop
+start-of-list-row p = let at-loop = p .before .before .before .before in at-loop .before .before .before .before
+
+abbrev loop-of-list-row : tie.After-list-row Inv-loop μ-loop → tie.At-loop Inv-loop μ-loop
+loop-of-list-row p = p .before .before .before .before
+
 loop-holds : tie.Need-loop-holds Inv-loop μ-loop
 loop-holds c =
     let a = c .before .before .before .args in
@@ -39,8 +46,8 @@ loop-holds c =
 
 loop-again : tie.Need-loop-again Inv-loop μ-loop
 loop-again c =
-    let a = c .before .before .before .before .before .before .before .before .before .before .args in
-    let l = c .before .before .before .before .before .before .loop in
+    let a = start-of-list-row (c .before .before) .args in
+    let l = loop-of-list-row (c .before .before) .loop in
     let R = c .before .before .list-row in
     record {
       inside = omega arith;

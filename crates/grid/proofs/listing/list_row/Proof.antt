@@ -29,6 +29,10 @@ Inv-loop cells mask n w x out₀ t words b s₀ c₀ out s c = Loop cells mask n
 abbrev μ-loop : tie.MeasureT-loop
 μ-loop cells mask n w x out₀ t words b s₀ c₀ out s c = w - c
 
+-- The places that the needs come back to.
+abbrev start-of-loop : tie.At-loop Inv-loop μ-loop → tie.Start Inv-loop μ-loop
+start-of-loop p = p .before .before .before .before
+
 mul-b : tie.Need-mul-b Inv-loop μ-loop
 mul-b c =
     let a = c .before .before .args in
@@ -61,7 +65,7 @@ mul-cut : tie.Need-mul-cut Inv-loop μ-loop
 mul-cut c = let a = c .before .before .before .before .before .args in omega (arith, rows-apart (a .x) (a .n) (a .w) (omega arith))
 
 shared-slice-read-cut : tie.Need-shared-slice-read-cut Inv-loop μ-loop
-shared-slice-read-cut c = let a = c .before .before .before .before .before .before .args in omega (arith, rows-apart (a .x) (a .n) (a .w) (omega arith))
+shared-slice-read-cut c = let a = start-of-loop (c .before .before) .args in omega (arith, rows-apart (a .x) (a .n) (a .w) (omega arith))
 
 list-word-requires : tie.Need-list-word-requires Inv-loop μ-loop
 list-word-requires c κs = let i = c .before .before .before .before .loop .inv .s-most in (omega arith, omega (arith, i))

@@ -29,6 +29,10 @@ Inv-loop used cells₀ masks₀ n w x₀ cells masks x = Loop used cells₀ mask
 abbrev μ-loop : tie.MeasureT-loop
 μ-loop used cells₀ masks₀ n w x₀ cells masks x = n - x
 
+-- The places that the needs come back to.
+abbrev start-of-bit : tie.After-bit Inv-loop μ-loop → tie.Start Inv-loop μ-loop
+start-of-bit p = let at-loop = p .before .before in at-loop .before .before .before .before
+
 loop-holds : tie.Need-loop-holds Inv-loop μ-loop
 loop-holds c =
     let a = c .before .before .before .args in
@@ -39,7 +43,7 @@ bit-requires c κs = tt
 
 loop-again : tie.Need-loop-again Inv-loop μ-loop
 loop-again c =
-    let a = c .before .before .before .before .before .before .before .args in
+    let a = start-of-bit (c .before) .args in
     let l = c .before .before .before .loop in
     let f = bitAt (a .used .now) in
     let r = c .before .bit in

@@ -23,6 +23,13 @@ Inv-loop cells mask b w c words k₀ k = Loop cells mask b c k
 abbrev μ-loop : tie.MeasureT-loop
 μ-loop cells mask b w c words k₀ k = w - k
 
+-- The places that the needs come back to.
+abbrev start-of-lowest : tie.After-lowest Inv-loop μ-loop → tie.Start Inv-loop μ-loop
+start-of-lowest p = let at-above = p .before .before .before .before .before in at-above .before .before
+
+abbrev start-of-above2 : tie.After-above2 Inv-loop μ-loop → tie.Start Inv-loop μ-loop
+start-of-above2 p = let at-above = p .before .before .before .before .before in at-above .before .before
+
 loop-holds : tie.Need-loop-holds Inv-loop μ-loop
 loop-holds c =
     let a = c .before .before .args in
@@ -34,14 +41,14 @@ lowest-requires c κs = tt
 
 add-result : tie.Need-add-result Inv-loop μ-loop
 add-result c =
-    let a = c .before .before .before .before .before .before .before .args in
+    let a = start-of-lowest c .args in
     let l = c .before .before .before .before .loop in
     let h = lowest-some _ _ (c .before .before .shared-slice-known2 .given (a .b + l .k) .fits) (c .before .if1 .taken) (c .lowest .ensures) in
     omega (arith, h)
 
 returns : tie.Need-returns Inv-loop μ-loop
 returns c =
-    let a = c .before .before .before .before .before .before .before .args in
+    let a = start-of-lowest c .args in
     let l = c .before .before .before .before .loop in
     let f = c .before .before .shared-slice-known2 .given (a .b + l .k) .fits in
     let h = lowest-some _ _ f (c .before .if1 .taken) (c .lowest .ensures) in
@@ -53,7 +60,7 @@ loop-less c = omega (arith, c .above2 .ensures .low)
 
 loop-again : tie.Need-loop-again Inv-loop μ-loop
 loop-again c =
-    let a = c .before .before .before .before .before .before .before .args in
+    let a = start-of-above2 c .args in
     let l = c .before .before .before .before .loop in
     let L = c .above2 .ensures in
     record {

@@ -23,6 +23,13 @@ Inv-loop cells₀ masks w t b source f mask words c₀ cells c = Loop cells₀ w
 abbrev μ-loop : tie.MeasureT-loop
 μ-loop cells₀ masks w t b source f mask words c₀ cells c = w - c
 
+-- The places that the needs come back to.
+abbrev start-of-above : tie.After-above Inv-loop μ-loop → tie.Start Inv-loop μ-loop
+start-of-above p = let at-loop = p .before .before .before .before .before in at-loop .before .before .before .before .before
+
+abbrev start-of-loop-end : tie.After-loop Inv-loop μ-loop → tie.Start Inv-loop μ-loop
+start-of-loop-end p = let at-lowest = p .before .before in at-lowest .before .before .before .before
+
 lowest-requires : tie.Need-lowest-requires Inv-loop μ-loop
 lowest-requires c κs = tt
 
@@ -37,7 +44,7 @@ loop-less c = omega (arith, c .above .ensures .low)
 
 loop-again : tie.Need-loop-again Inv-loop μ-loop
 loop-again c =
-    let a = c .before .before .before .before .before .before .before .before .before .before .args in
+    let a = start-of-above c .args in
     let l = c .before .before .before .before .before .loop in
     let L = c .above .ensures in
     let J = c .before .join in
@@ -50,7 +57,7 @@ loop-again c =
 
 returns : tie.Need-returns Inv-loop μ-loop
 returns c =
-    let a = c .before .before .before .before .before .before .args in
+    let a = start-of-loop-end c .args in
     let l = c .before .loop in
     λ z. joined-all (a .w) (a .t) (a .b) (a .f) (l .c) _ (a .source) (a .cells .now)
     (l .cells) (a .masks .now) (omega arith) (omega arith) refl (l .inv .joined z)

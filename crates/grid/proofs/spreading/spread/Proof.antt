@@ -24,12 +24,28 @@ Inv-loop cells masks n w rows₀ x₀ rows x = Loop cells masks n w rows x
 abbrev μ-loop : tie.MeasureT-loop
 μ-loop cells masks n w rows₀ x₀ rows x = n - x
 
+-- The places that the needs come back to.
+abbrev start-of-clear : tie.After-clear Inv-loop μ-loop → tie.Start Inv-loop μ-loop
+start-of-clear p = p .before .before .before .before .before
+
+abbrev start-of-loop : tie.At-loop Inv-loop μ-loop → tie.Start Inv-loop μ-loop
+start-of-loop p = start-of-clear (p .before .before .before)
+
+abbrev start-of-spread-row : tie.After-spread-row Inv-loop μ-loop → tie.Start Inv-loop μ-loop
+start-of-spread-row p = start-of-loop (p .before .before .before .before)
+
+abbrev loop-of-spread-row : tie.After-spread-row Inv-loop μ-loop → tie.At-loop Inv-loop μ-loop
+loop-of-spread-row p = p .before .before .before .before
+
+abbrev start-of-loop-end : tie.After-loop Inv-loop μ-loop → tie.Start Inv-loop μ-loop
+start-of-loop-end p = start-of-loop (p .before)
+
 clear-requires : tie.Need-clear-requires Inv-loop μ-loop
 clear-requires c κs = c .before .before .before .before .pre .1
 
 loop-holds : tie.Need-loop-holds Inv-loop μ-loop
 loop-holds c =
-    let start = c .before .before .before .before .before .before .before in
+    let start = start-of-clear (c .before .before) in
     let a = start .args in
     let F : Cells = first (a .n) (a .w) (a .cells .now) (a .masks .now) in
     let k = c .before .before .clear in
@@ -37,9 +53,10 @@ loop-holds c =
 
 spread-row-requires : tie.Need-spread-row-requires Inv-loop μ-loop
 spread-row-requires c κs =
-    let start = c .before .before .before .before .before .before .before .before .before .before .before in
+    let at-loop = c .before .before .before in
+    let start = start-of-loop at-loop in
     let a = start .args in
-    let l = c .before .before .before .loop in
+    let l = at-loop .loop in
     record {
       space = omega (arith, start .pre .0);
       inside = c .before .before .loop-test .taken;
@@ -49,9 +66,9 @@ spread-row-requires c κs =
 
 loop-again : tie.Need-loop-again Inv-loop μ-loop
 loop-again c =
-    let start = c .before .before .before .before .before .before .before .before .before .before .before .before .before .before in
+    let start = start-of-spread-row (c .before .before) in
     let a = start .args in
-    let l = c .before .before .before .before .before .before .loop in
+    let l = loop-of-spread-row (c .before .before) .loop in
     let R = c .before .before .spread-row in
     record {
       inside = omega arith;
@@ -61,7 +78,7 @@ loop-again c =
 
 returns : tie.Need-returns Inv-loop μ-loop
 returns c =
-    let a = c .before .before .before .before .before .before .before .before .before .args in
+    let a = start-of-loop-end c .args in
     let l = c .before .loop in
     laid-all (a .n) (a .w) (a .cells .now) (a .masks .now) (l .x) (l .rows) (omega arith) (l .inv .laid)
 

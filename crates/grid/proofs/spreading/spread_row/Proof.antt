@@ -26,6 +26,13 @@ Inv-loop cells mask n w x rows₀ words b to c₀ rows c = Loop cells mask n w x
 abbrev μ-loop : tie.MeasureT-loop
 μ-loop cells mask n w x rows₀ words b to c₀ rows c = w - c
 
+-- The places that the needs come back to.
+abbrev start-of-loop : tie.At-loop Inv-loop μ-loop → tie.Start Inv-loop μ-loop
+start-of-loop p = p .before .before .before .before
+
+abbrev start-of-above : tie.After-above Inv-loop μ-loop → tie.Start Inv-loop μ-loop
+start-of-above p = start-of-loop (p .before .before .before .before)
+
 mul-b : tie.Need-mul-b Inv-loop μ-loop
 mul-b c =
     let a = c .before .before .args in
@@ -55,7 +62,7 @@ mul-cut : tie.Need-mul-cut Inv-loop μ-loop
 mul-cut c = let a = c .before .before .before .before .before .args in omega (arith, rows-apart (a .x) (a .n) (a .w) (omega arith))
 
 shared-slice-read-cut : tie.Need-shared-slice-read-cut Inv-loop μ-loop
-shared-slice-read-cut c = let a = c .before .before .before .before .before .before .args in omega (arith, rows-apart (a .x) (a .n) (a .w) (omega arith))
+shared-slice-read-cut c = let a = start-of-loop (c .before .before) .args in omega (arith, rows-apart (a .x) (a .n) (a .w) (omega arith))
 
 mul-rows : tie.Need-mul-rows Inv-loop μ-loop
 mul-rows c = omega (arith, c .before .before .before .loop .inv .as-long)
@@ -68,7 +75,7 @@ loop-less c = omega (arith, c .above .ensures .low)
 
 loop-again : tie.Need-loop-again Inv-loop μ-loop
 loop-again c =
-    let a = c .before .before .before .before .before .before .before .before .args in
+    let a = start-of-above c .args in
     let l = c .before .before .before .before .loop in
     let W = c .before .cut in
     let L = c .above .ensures in
