@@ -25,6 +25,10 @@ Inv-loop cells masks n from words₀ count₀ place₀ words count place = Loop 
 abbrev μ-loop : tie.MeasureT-loop
 μ-loop cells masks n from words₀ count₀ place₀ words count place = 6 - count
 
+-- The places that the needs come back to.
+abbrev start-of-next-pair : tie.After-next-pair Inv-loop μ-loop → tie.Start Inv-loop μ-loop
+start-of-next-pair p = let at-loop = p .before .before in at-loop .before .before .before .before
+
 loop-holds : tie.Need-loop-holds Inv-loop μ-loop
 loop-holds c = let s = c .before .before .before in
     record {
@@ -42,7 +46,7 @@ same-length : tie.Need-same-length Inv-loop μ-loop
 same-length c = c .before .before .before .loop .inv .as-long
 
 returns : tie.Need-returns Inv-loop μ-loop
-returns c = let s = c .before .before .before .before .before .before .before in
+returns c = let s = start-of-next-pair (c .before) in
     let here = c .before .before .before .loop in
     let f = held (now (s .args .cells)) (now (s .args .masks)) (s .args .n) in
     let n = c .before .next-pair in
@@ -64,7 +68,7 @@ cast-words c = omega (arith, c .before .next-pair .ensures .high)
 slice-write-words : tie.Need-slice-write-words Inv-loop μ-loop
 slice-write-words c =
     let at-loop = c .before .before .before in
-    let s = c .before .before .before .before .before .before .before in
+    let s = start-of-next-pair (c .before) in
     omega (arith, s .pre .six, at-loop .loop .inv .as-long, c .before .before .loop-test .taken)
 
 add-count : tie.Need-add-count Inv-loop μ-loop
@@ -77,7 +81,7 @@ loop-less : tie.Need-loop-less Inv-loop μ-loop
 loop-less c = omega (arith, c .before .before .loop-test .taken)
 
 loop-again : tie.Need-loop-again Inv-loop μ-loop
-loop-again c = let s = c .before .before .before .before .before .before .before in
+loop-again c = let s = start-of-next-pair (c .before) in
     let here = c .before .before .before .loop in
     let f = held (now (s .args .cells)) (now (s .args .masks)) (s .args .n) in
     let n = c .before .next-pair in

@@ -30,6 +30,16 @@ Inv-loop text cells masks n lines out₀ place₀ i₀ out place i = Loop text c
 abbrev μ-loop : tie.MeasureT-loop
 μ-loop text cells masks n lines out₀ place₀ i₀ out place i = lines - i
 
+-- The places that the needs come back to.
+abbrev start-of-loop : tie.At-loop Inv-loop μ-loop → tie.Start Inv-loop μ-loop
+start-of-loop p = p .before .before .before .before .before
+
+abbrev start-of-put-line : tie.After-put-line Inv-loop μ-loop → tie.Start Inv-loop μ-loop
+start-of-put-line p = start-of-loop (p .before .before .before)
+
+abbrev start-of-loop-end : tie.After-loop Inv-loop μ-loop → tie.Start Inv-loop μ-loop
+start-of-loop-end p = start-of-loop (p .before)
+
 loop-holds : tie.Need-loop-holds Inv-loop μ-loop
 unfolding joined pairsBefore
 loop-holds c = let s = c .before .before .before .before in
@@ -42,7 +52,7 @@ loop-holds c = let s = c .before .before .before .before in
     }
 
 put-line-requires : tie.Need-put-line-requires Inv-loop μ-loop
-put-line-requires c κs = let s = c .before .before .before .before .before .before .before in
+put-line-requires c κs = let s = start-of-loop (c .before .before) in
     let here = c .before .before .loop in
     let h = c .before .loop-test .taken in
     let ws = pairsHeld (held (now (s .args .cells)) (now (s .args .masks)) (s .args .n)) in
@@ -61,7 +71,7 @@ loop-less : tie.Need-loop-less Inv-loop μ-loop
 loop-less c = omega (arith, c .before .before .before .before .loop-test .taken)
 
 loop-again : tie.Need-loop-again Inv-loop μ-loop
-loop-again c = let s = c .before .before .before .before .before .before .before .before .before .before in
+loop-again c = let s = start-of-put-line (c .before .before) in
     let here = c .before .before .before .before .before .loop in
     let q = c .before .before .put-line in
     let ws = pairsHeld (held (now (s .args .cells)) (now (s .args .masks)) (s .args .n)) in
@@ -81,7 +91,7 @@ same-length : tie.Need-same-length Inv-loop μ-loop
 same-length c = c .before .loop .inv .as-long
 
 returns : tie.Need-returns Inv-loop μ-loop
-returns c = let s = c .before .before .before .before .before .before in
+returns c = let s = start-of-loop-end c in
     let here = c .before .loop in
     let text = now (s .args .text) in
     let ws = pairsHeld (held (now (s .args .cells)) (now (s .args .masks)) (s .args .n)) in

@@ -29,6 +29,13 @@ Inv-loop words count out₀ at end₀ i₀ out end i = Loop words count out₀ a
 abbrev μ-loop : tie.MeasureT-loop
 μ-loop words count out₀ at end₀ i₀ out end i = count - i
 
+-- The places that the needs come back to.
+abbrev start-of-loop : tie.At-loop Inv-loop μ-loop → tie.Start Inv-loop μ-loop
+start-of-loop p = p .before .before .before
+
+abbrev put-blanks-of-put-byte : tie.After-put-byte Inv-loop μ-loop → tie.After-put-blanks Inv-loop μ-loop
+put-blanks-of-put-byte p = p .before .before .before .before
+
 loop-holds : tie.Need-loop-holds Inv-loop μ-loop
 unfolding lines
 loop-holds c = let s = c .before .before in
@@ -44,10 +51,11 @@ shared-slice-read-put-cell c = let s = c .before .before .before .before .before
 
 put-cell-requires : tie.Need-put-cell-requires Inv-loop μ-loop
 put-cell-requires c κs =
-    let s = c .before .before .before .before .before .before in
-    let here = c .before .before .before .loop in (
-      s .pre .small (here .i) (c .before .before .loop-test .taken),
-      omega (arith, s .pre .few, s .pre .fits, here .inv .as-long, here .inv .end-is, c .before .before .loop-test .taken),
+    let in-loop = c .before .before in
+    let s = start-of-loop (in-loop .before) in
+    let here = in-loop .before .loop in (
+      s .pre .small (here .i) (in-loop .loop-test .taken),
+      omega (arith, s .pre .few, s .pre .fits, here .inv .as-long, here .inv .end-is, in-loop .loop-test .taken),
     )
 
 add-i : tie.Need-add-i Inv-loop μ-loop
@@ -107,7 +115,7 @@ put-byte-requires c κs =
 
 same-length : tie.Need-same-length Inv-loop μ-loop
 same-length c =
-    let after-put-blanks = c .before .before .before .before .before .before in
+    let after-put-blanks = put-blanks-of-put-byte (c .before .before) in
     let at-loop = after-put-blanks .before .before .before in
     let s = at-loop .before .before .before in
     let here = at-loop .loop in
@@ -119,7 +127,7 @@ same-length c =
 
 returns : tie.Need-returns Inv-loop μ-loop
 returns c =
-    let after-put-blanks = c .before .before .before .before .before .before in
+    let after-put-blanks = put-blanks-of-put-byte (c .before .before) in
     let at-loop = after-put-blanks .before .before .before in
     let s = at-loop .before .before .before in
     let here = at-loop .loop in

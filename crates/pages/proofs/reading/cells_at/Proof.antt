@@ -25,6 +25,13 @@ Inv-loop pages at words₀ k₀ words k = Loop pages at words₀ words k
 abbrev μ-loop : tie.MeasureT-loop
 μ-loop pages at words₀ k₀ words k = 6 - k
 
+-- The places that the needs come back to.
+abbrev start-of-loop : tie.At-loop Inv-loop μ-loop → tie.Start Inv-loop μ-loop
+start-of-loop p = p .before .before .before
+
+abbrev start-of-cell-at : tie.After-cell-at Inv-loop μ-loop → tie.Start Inv-loop μ-loop
+start-of-cell-at p = start-of-loop (p .before .before .before .before)
+
 loop-holds : tie.Need-loop-holds Inv-loop μ-loop
 loop-holds c = let s = c .before .before in
     let e : s .args .at ≡ s .args .at + 12 * 0 = omega arith in
@@ -46,8 +53,10 @@ same-length : tie.Need-same-length Inv-loop μ-loop
 same-length c = c .before .before .before .loop .inv .as-long
 
 returns : tie.Need-returns Inv-loop μ-loop
-returns c = let s = c .before .before .before .before .before .before in
-    let here = c .before .before .before .loop in (
+returns c =
+    let at-loop = c .before .before .before in
+    let s = start-of-loop at-loop in
+    let here = at-loop .loop in (
       here .inv .inside,
       sym (here .inv .found ∙ ap (λ (t : List ℕ). take (here .k) (here .words) ++ t)
           (cells-end (now (s .args .pages)) (s .args .at) (here .k) (c .before .before .loop-test .taken) (c .if1 .taken))
@@ -55,7 +64,7 @@ returns c = let s = c .before .before .before .before .before .before in
     )
 
 cell-at-requires : tie.Need-cell-at-requires Inv-loop μ-loop
-cell-at-requires c κs = let s = c .before .before .before .before .before .before in omega (arith, s .pre .0, c .before .before .loop-test .taken)
+cell-at-requires c κs = let s = start-of-loop (c .before .before .before) in omega (arith, s .pre .0, c .before .before .loop-test .taken)
 
 slice-write-words : tie.Need-slice-write-words Inv-loop μ-loop
 slice-write-words c =
@@ -69,7 +78,7 @@ loop-less : tie.Need-loop-less Inv-loop μ-loop
 loop-less c = omega (arith, c .before .before .before .loop-test .taken)
 
 loop-again : tie.Need-loop-again Inv-loop μ-loop
-loop-again c = let s = c .before .before .before .before .before .before .before in
+loop-again c = let s = start-of-cell-at c in
     let here = c .before .before .before .before .loop in
     let l = now (s .args .pages) in
     let h = c .before .before .before .loop-test .taken in

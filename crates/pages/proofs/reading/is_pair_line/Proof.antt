@@ -10,6 +10,13 @@ use Rattle.pages.proofs.WritingLaws.{small-take, wrote-whole}
 use Rattle.pages.proofs.reading.is_pair_line.Statement.{statement}
 use Rattle.pages.proofs.reading.is_pair_line.Tie as tie
 
+-- The places that the needs come back to.
+abbrev start-of-put-pair-line : tie.After-put-pair-line → tie.Start
+start-of-put-pair-line p = p .before .before .before .before
+
+abbrev start-of-same-line : tie.After-same-line → tie.Start
+start-of-same-line p = start-of-put-pair-line (p .before .before .before)
+
 slice-aggregate-put-pair-line : tie.Need-slice-aggregate-put-pair-line
 slice-aggregate-put-pair-line c = refl
 
@@ -23,13 +30,13 @@ slice-aggregate-same-line c = let q = c .before .before .put-pair-line in let k 
 
 same-line-requires : tie.Need-same-line-requires
 same-line-requires c κs =
-    let s = c .before .before .before .before .before .before in
+    let s = start-of-put-pair-line (c .before .before) in
     let q = c .before .before .put-pair-line in
     let k : length (q .last .1 .1 .0) ≡ 73 = q .kept .1 .1 .0 in
     (k, s .pre .fits)
 
 returns : tie.Need-returns
-returns c = let s = c .before .before .before .before .before .before .before in
+returns c = let s = start-of-same-line c in
     let q = c .before .before .before .put-pair-line in
     let k : length (q .last .1 .1 .0) ≡ 73 = q .kept .1 .1 .0 in
     let e : q .last .1 .1 .0 ≡ pairLine (take (s .args .count) (now (s .args .words))) =

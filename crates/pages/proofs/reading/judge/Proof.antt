@@ -30,6 +30,16 @@ Inv-loop text pages lines count₀ low₀ i₀ count low i = Loop text pages lin
 abbrev μ-loop : tie.MeasureT-loop
 μ-loop text pages lines count₀ low₀ i₀ count low i = lines - i
 
+-- The places that the needs come back to.
+abbrev start-of-check-line : tie.After-check-line Inv-loop μ-loop → tie.Start Inv-loop μ-loop
+start-of-check-line p = let at-loop = p .before .before in at-loop .before .before .before .before .before
+
+abbrev start-of-loop-end : tie.After-loop Inv-loop μ-loop → tie.Start Inv-loop μ-loop
+start-of-loop-end p = let at-loop = p .before in at-loop .before .before .before .before .before
+
+abbrev start-of-lines-of : tie.After-lines-of Inv-loop μ-loop → tie.Start Inv-loop μ-loop
+start-of-lines-of p = start-of-loop-end (p .before)
+
 returns : tie.Need-returns Inv-loop μ-loop
 returns c = let s = c .before .before .before in bad-size (now (s .args .text)) (now (s .args .pages)) (c .if1 .taken)
 
@@ -57,12 +67,12 @@ found : (c : tie.After-check-line Inv-loop μ-loop)
     × (c .check-line .result .count ≡ length (wordsAt (now (start .args .pages)) (at-loop .loop .i)))
     × (c .check-line .result .next ≡ after (at-loop .loop .low) (wordsAt (now (start .args .pages)) (at-loop .loop .i)))
 found c h =
-    let s = c .before .before .before .before .before .before .before in
+    let s = start-of-check-line c in
     let here = c .before .before .loop in
     line-yes (now (s .args .text)) (now (s .args .pages)) (here .i) (length (now (s .args .pages)) / 73) (here .low) (c .check-line .ensures) h
 
 -- the loop was left after the last line
-all-lines : (c : tie.After-loop Inv-loop μ-loop) → c .before .loop .i ≡ length (now (c .before .before .before .before .before .before .args .pages)) / 73
+all-lines : (c : tie.After-loop Inv-loop μ-loop) → c .before .loop .i ≡ length (now (start-of-loop-end c .args .pages)) / 73
 all-lines c = omega (arith, c .before .loop .inv .inside, c .loop-test .left)
 
 check-line-requires : tie.Need-check-line-requires Inv-loop μ-loop
@@ -76,7 +86,7 @@ check-line-requires c κs =
     }
 
 returns-3 : tie.Need-returns-3 Inv-loop μ-loop
-returns-3 c = let s = c .before .before .before .before .before .before .before .before .before in
+returns-3 c = let s = start-of-check-line (c .before .before) in
     let here = c .before .before .before .before .loop in
     let bytes = now (s .args .pages) in
     let text = now (s .args .text) in
@@ -88,7 +98,7 @@ returns-3 c = let s = c .before .before .before .before .before .before .before 
 add-count : tie.Need-add-count Inv-loop μ-loop
 add-count c =
     let after-check-line = c .before .before .before in
-    let start = after-check-line .before .before .before .before .before .before .before in
+    let start = start-of-check-line after-check-line in
     let r = found after-check-line (c .before .if3 .left) in
     let here = after-check-line .before .before .loop in
     omega (arith, r .1, here .inv .count-most, words-few (now (start .args .pages)) (here .i), after-check-line .before .loop-test .taken)
@@ -102,7 +112,7 @@ loop-less c = omega (arith, c .before .before .before .before .loop-test .taken)
 loop-again : tie.Need-loop-again Inv-loop μ-loop
 loop-again c =
     let after-check-line = c .before .before .before in
-    let s = after-check-line .before .before .before .before .before .before .before in
+    let s = start-of-check-line after-check-line in
     let here = after-check-line .before .before .loop in
     let bytes = now (s .args .pages) in
     let text = now (s .args .text) in
@@ -119,7 +129,7 @@ loop-again c =
     }
 
 lines-of-requires : tie.Need-lines-of-requires Inv-loop μ-loop
-lines-of-requires c κs = let s = c .before .before .before .before .before .before in
+lines-of-requires c κs = let s = start-of-loop-end c in
     let here = c .before .loop in
     let bytes = now (s .args .pages) in
     let e = all-lines c in
@@ -131,7 +141,7 @@ lines-of-requires c κs = let s = c .before .before .before .before .before .bef
     )
 
 returns-4 : tie.Need-returns-4 Inv-loop μ-loop
-returns-4 c = let s = c .before .before .before .before .before .before .before .before in
+returns-4 c = let s = start-of-lines-of (c .before) in
     let here = c .before .before .before .loop in
     let bytes = now (s .args .pages) in
     let e = all-lines (c .before .before) in
@@ -139,7 +149,7 @@ returns-4 c = let s = c .before .before .before .before .before .before .before 
     bad-lines (now (s .args .text)) bytes (length bytes / 73) refl (λ q. c .if4 .taken (c .before .lines-of .ensures ∙ ap linesOf z ∙ q))
 
 returns-5 : tie.Need-returns-5 Inv-loop μ-loop
-returns-5 c = let s = c .before .before .before .before .before .before .before .before in
+returns-5 c = let s = start-of-lines-of (c .before) in
     let here = c .before .before .before .loop in
     let bytes = now (s .args .pages) in
     let text = now (s .args .text) in

@@ -26,6 +26,10 @@ Inv-loop pages lines list₀ end₀ i₀ list end i = Loop pages lines list₀ l
 abbrev μ-loop : tie.MeasureT-loop
 μ-loop pages lines list₀ end₀ i₀ list end i = lines - i
 
+-- The places that the needs come back to.
+abbrev start-of-list-line : tie.After-list-line Inv-loop μ-loop → tie.Start Inv-loop μ-loop
+start-of-list-line p = let at-loop = p .before .before .before in at-loop .before .before .before
+
 loop-holds : tie.Need-loop-holds Inv-loop μ-loop
 unfolding joined
 loop-holds c = let s = c .before .before in
@@ -46,7 +50,7 @@ loop-less : tie.Need-loop-less Inv-loop μ-loop
 loop-less c = omega (arith, c .before .before .before .before .loop-test .taken)
 
 loop-again : tie.Need-loop-again Inv-loop μ-loop
-loop-again c = let s = c .before .before .before .before .before .before .before .before in
+loop-again c = let s = start-of-list-line (c .before .before) in
     let here = c .before .before .before .before .before .loop in
     let q = c .before .before .list-line in
     let k : length (q .last .1 .1 .0) ≡ length (here .list) = q .kept .1 .1 .0 in

@@ -10,6 +10,10 @@ use borrow.Author.Needs.{needs}
 use Rattle.rowpairs.proofs.leaving.joins_some.Statement.{statement}
 use Rattle.rowpairs.proofs.leaving.joins_some.Tie as tie
 
+-- The places that the needs come back to.
+abbrev start-of-meets : tie.After-meets → tie.Start
+start-of-meets p = let at-row-width = p .before .before in at-row-width .before .before .before .before
+
 -- the row's words are there
 inside : (c : tie.After-row-width)
     → let a = c .before .before .before .before .args in
@@ -35,7 +39,7 @@ meets-requires c κs = let h = inside (c .before) in (h .0, h .1, omega (arith, 
 
 returns : tie.Need-returns
 returns c =
-    let start = c .before .before .before .before .before .before in
+    let start = start-of-meets c in
     let a = start .args in
     λ l B below. meets-joined (a .cells .now) (a .masks .now) (a .n) (a .x) _ _ l (c .before .before .row-width .ensures) (start .pre .inside) B below
     (c .meets .ensures)

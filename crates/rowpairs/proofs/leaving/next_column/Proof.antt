@@ -27,6 +27,13 @@ Inv-loop cells mask n x y row from₀ from = Loop cells mask n x y from
 abbrev μ-loop : tie.MeasureT-loop
 μ-loop cells mask n x y row from₀ from = n - from
 
+-- The places that the needs come back to.
+abbrev start-of-next : tie.After-next Inv-loop μ-loop → tie.Start Inv-loop μ-loop
+start-of-next p = let at-row-width = p .before .before .before .before in at-row-width .before .before .before
+
+abbrev start-of-loop : tie.At-loop Inv-loop μ-loop → tie.Start Inv-loop μ-loop
+start-of-loop p = p .before .before .before .before
+
 product : (c : tie.After-row-width Inv-loop μ-loop) → c .before .before .before .args .x * c .row-width .result ≤ 16384
 product c =
     let start = c .before .before .before in
@@ -76,7 +83,7 @@ add-next-2 : tie.Need-add-next-2 Inv-loop μ-loop
 add-next-2 c = omega (arith, product (c .before .before .before), c .before .before .loop .inv .inside)
 
 add-if3 : tie.Need-add-if3 Inv-loop μ-loop
-add-if3 c = omega (arith, product (c .before .before .before .before), c .before .before .before .before .before .before .before .pre .0)
+add-if3 c = omega (arith, product (c .before .before .before .before), start-of-next c .pre .0)
 
 add-if4 : tie.Need-add-if4 Inv-loop μ-loop
 add-if4 c = omega (arith, product (c .before .before .before .before .before), c .before .before .before .before .loop .inv .inside)
@@ -164,7 +171,7 @@ loop-less-3 c = omega (arith, c .before .loop-test .taken)
 loop-again-3 : tie.Need-loop-again-3 Inv-loop μ-loop
 unfolding digit
 loop-again-3 c =
-    let start = c .before .before .before .before .before .before in
+    let start = start-of-loop (c .before .before) in
     let a = start .args in
     let l = c .before .before .loop in
     record {

@@ -25,6 +25,10 @@ Inv-loop cells masks n from p₀ p = Loop cells masks n from p
 abbrev μ-loop : tie.MeasureT-loop
 μ-loop cells masks n from p₀ p = maxPairs - p
 
+-- The places that the needs come back to.
+abbrev start-of-loop : tie.At-loop Inv-loop μ-loop → tie.Start Inv-loop μ-loop
+start-of-loop p = p .before .before .before
+
 loop-holds : tie.Need-loop-holds Inv-loop μ-loop
 loop-holds c =
     record { low-end = omega arith; inside = c .before .before .pre .2; gap = λ k l m. absurd (omega arith) }
@@ -46,10 +50,10 @@ mul-next-column : tie.Need-mul-next-column Inv-loop μ-loop
 mul-next-column c = omega (arith, c .before .loop-test .taken)
 
 shared-slice-read-next-column : tie.Need-shared-slice-read-next-column Inv-loop μ-loop
-shared-slice-read-next-column c = omega (arith, c .before .before .before .before .before .before .pre .1, c .before .if1 .left)
+shared-slice-read-next-column c = omega (arith, start-of-loop (c .before .before .before) .pre .1, c .before .if1 .left)
 
 next-column-requires : tie.Need-next-column-requires Inv-loop μ-loop
-next-column-requires c κs = (c .before .before .before .before .before .before .pre .0, omega (arith, c .before .if1 .left), omega arith)
+next-column-requires c κs = (start-of-loop (c .before .before .before) .pre .0, omega (arith, c .before .if1 .left), omega arith)
 
 mul-result : tie.Need-mul-result Inv-loop μ-loop
 mul-result c = omega (arith, c .before .before .before .before .loop-test .taken)

@@ -26,6 +26,10 @@ Inv-loop records row₀ i₀ row i = Loop records row i
 abbrev μ-loop : tie.MeasureT-loop
 μ-loop records row₀ i₀ row i = length records - i
 
+-- The places that the needs come back to.
+abbrev start-of-set-bit : tie.After-set-bit Inv-loop μ-loop → tie.Start Inv-loop μ-loop
+start-of-set-bit p = let at-loop = p .before .before .before .before in at-loop .before .before
+
 loop-holds : tie.Need-loop-holds Inv-loop μ-loop
 loop-holds c = record { inside = omega arith; row-long = refl; members = members-none _ (bits-none 16) }
 
@@ -42,7 +46,7 @@ set-bit-requires c κs =
 
 loop-again : tie.Need-loop-again Inv-loop μ-loop
 loop-again c =
-    let a = c .before .before .before .before .before .before .before .args in
+    let a = start-of-set-bit (c .before) .args in
     let l = c .before .before .before .before .before .loop in
     let s = c .before .set-bit in
     record {

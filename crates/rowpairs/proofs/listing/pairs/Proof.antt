@@ -12,6 +12,10 @@ use borrow.Author.Needs.{needs}
 use Rattle.rowpairs.proofs.listing.pairs.Statement.{statement}
 use Rattle.rowpairs.proofs.listing.pairs.Tie as tie
 
+-- The places that the needs come back to.
+abbrev start-of-marks : tie.After-marks → tie.Start
+start-of-marks p = let at-size = p .before .before .before in at-size .before .before .before .before
+
 in-words : (c : tie.After-links) → c .links .result .count ≤ length (c .links .result .words)
 in-words c = let o = c .links .ensures in omega (arith, o .few, o .long)
 
@@ -42,7 +46,7 @@ returns c =
     let after-answer = c .before .before .before .before in
     let after-pairs-work = after-answer .before .before .before in
     let after-marks = after-pairs-work .before .before .before in
-    let start = after-marks .before .before .before .before .before .before .before in
+    let start = start-of-marks after-marks in
     after-answer .answer .ensures by-trees (after-pairs-work .pairs-work .ensures) (start .args .register) (lettered after-marks)
 
 pub pairs-spec : {M : Type 1} → statement M

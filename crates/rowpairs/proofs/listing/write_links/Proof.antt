@@ -23,6 +23,10 @@ Inv-loop words list₀ count i₀ list i = Loop words list₀ count list i
 abbrev μ-loop : tie.MeasureT-loop
 μ-loop words list₀ count i₀ list i = count - i
 
+-- The places that the needs come back to.
+abbrev start-of-loop : tie.At-loop Inv-loop μ-loop → tie.Start Inv-loop μ-loop
+start-of-loop p = p .before .before .before .before
+
 loop-holds : tie.Need-loop-holds Inv-loop μ-loop
 loop-holds c = record { inside = omega arith; as-long = refl; wrote = refl }
 
@@ -45,7 +49,7 @@ loop-again : tie.Need-loop-again Inv-loop μ-loop
 loop-again c =
     let l = c .before .before .loop in
     let o = c .before .before .before .lesser .ensures in
-    let a = c .before .before .before .before .before .before .args in
+    let a = start-of-loop (c .before .before) .args in
     record {
       inside = omega arith;
       as-long = length-set (l .list) (l .i) _ ∙ l .inv .as-long;

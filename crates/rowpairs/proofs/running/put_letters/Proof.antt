@@ -25,6 +25,16 @@ Inv-loop links forward against cells₀ masks₀ n w label₀ cells masks label 
 abbrev μ-loop : tie.MeasureT-loop
 μ-loop links forward against cells₀ masks₀ n w label₀ cells masks label = 26 - label
 
+-- The places that the needs come back to.
+abbrev start-of-label-part : tie.After-label-part Inv-loop μ-loop → tie.Start Inv-loop μ-loop
+start-of-label-part p = let at-loop = p .before .before .before .before .before in at-loop .before .before .before .before
+
+abbrev loop-of-label-part : tie.After-label-part Inv-loop μ-loop → tie.At-loop Inv-loop μ-loop
+loop-of-label-part p = p .before .before .before .before .before
+
+abbrev start-of-every-if2 : tie.After-every-if2 Inv-loop μ-loop → tie.Start Inv-loop μ-loop
+start-of-every-if2 p = let at-loop = p .before .before .before in at-loop .before .before .before .before
+
 loop-holds : tie.Need-loop-holds Inv-loop μ-loop
 loop-holds c =
     record { inside = omega arith; cells-as-long = refl; masks-as-long = refl; put-below = put-begins _ _ _ _ _ _ _ }
@@ -43,13 +53,13 @@ add-if1 c =
 
 put-letters-requires : tie.Need-put-letters-requires Inv-loop μ-loop
 put-letters-requires c κs =
-    let P = c .before .before .before .before .before .before .before .before .before .before .before .pre in
-    let l = c .before .before .before .before .before .before .before .loop in
+    let P = start-of-label-part (c .before .before) .pre in
+    let l = loop-of-label-part (c .before .before) .loop in
     omega (arith, P, l .inv .cells-as-long, l .inv .masks-as-long)
 
 loop-again : tie.Need-loop-again Inv-loop μ-loop
 loop-again c =
-    let a = c .before .before .before .before .before .before .before .before .args in
+    let a = start-of-every-if2 (c .before) .args in
     let l = c .before .before .before .before .loop in
     let p = c .before .before .every-if in
     let t = c .before .every-if2 in

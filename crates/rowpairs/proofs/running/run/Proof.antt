@@ -23,9 +23,19 @@ Inv-loop links marks cells₀ masks₀ n code count₀ i₀ cells masks count i 
 abbrev μ-loop : tie.MeasureT-loop
 μ-loop links marks cells₀ masks₀ n code count₀ i₀ cells masks count i = length code - i
 
+-- The places that the needs come back to.
+abbrev start-of-next-item : tie.After-next-item Inv-loop μ-loop → tie.Start Inv-loop μ-loop
+start-of-next-item p =
+    let at-loop = p .before .before in
+    let at-shared-slice-known = at-loop .before .before .before .before .before in
+    at-shared-slice-known .before
+
+abbrev next-item-of-step : tie.After-step Inv-loop μ-loop → tie.After-next-item Inv-loop μ-loop
+next-item-of-step p = p .before .before .before
+
 -- the numbers read
 used : (c : tie.After-next-item Inv-loop μ-loop)
-    → let start = c .before .before .before .before .before .before .before .before in
+    → let start = start-of-next-item c in
     (1 ≤ c .next-item .result .used) × (c .next-item .result .used ≤ 2)
     × (c .before .before .loop .i + c .next-item .result .used ≤ length (start .args .code .now))
 used c = let l = c .before .before .loop in reading-used _ _ _ _ (l .i) (omega arith) (l .inv .going) (c .next-item .ensures)
@@ -42,7 +52,7 @@ loop-holds c =
 step-requires : tie.Need-step-requires Inv-loop μ-loop
 step-requires c κs =
     let l = c .before .before .before .before .loop in
-    let start = c .before .before .before .before .before .before .before .before .before .before in
+    let start = start-of-next-item (c .before .before) in
     let r = reading-ready _ _ _ _ (l .i) (omega arith) (l .inv .going) (c .before .before .next-item .ensures) in
     let P = start .pre .0 _ (r .room) (reading-few _ _ _ _ (l .i) (omega arith) (l .inv .going) (c .before .before .next-item .ensures)) in (
       record { small = P .small; words = omega (arith, l .inv .cells-as-long, P .words); marks = omega (arith, l .inv .masks-as-long, P .marks) },
@@ -51,10 +61,10 @@ step-requires c κs =
     )
 
 add-i : tie.Need-add-i Inv-loop μ-loop
-add-i c = omega (arith, used (c .before .before .before .before .before .before .before .before))
+add-i c = omega (arith, used (next-item-of-step (c .before .before .before .before .before)))
 
 loop-less : tie.Need-loop-less Inv-loop μ-loop
-loop-less c = omega (arith, used (c .before .before .before .before .before .before .before .before))
+loop-less c = omega (arith, used (next-item-of-step (c .before .before .before .before .before)))
 
 loop-again : tie.Need-loop-again Inv-loop μ-loop
 loop-again c =
