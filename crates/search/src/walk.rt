@@ -6,13 +6,12 @@ use crate::LETTERS;
 use crate::RECORD_UNIT;
 use crate::Route;
 use crate::states::spread;
-ghost use mathlib.Core.Path.{_≡_};
-ghost use Prim.Native.Nat.{_+_, _*_, _<_, _≤_};
+ghost use Prim.Native.Nat.{_*_, _<_, _≤_};
 ghost use lib.ListN.{length};
 ghost use Rattle.book.specs.Causes.{maxRecords};
 ghost use Rattle.arcs.specs.Arcs.{maxArcs, arcFrom};
-ghost use Rattle.arcs.specs.Index.{Indexed};
 ghost use Rattle.search.specs.Steps.{Kept, Chosen, Better, Walked};
+ghost use Rattle.search.specs.Room.{ByIndex, ChooseAsked, WalkAsked};
 
 // Those of the states whose number at a record is the distance, each looked at.
 fn kept_each(work: &[u64], n: usize, at: usize, states: u64, distance: u64) -> u64
@@ -75,9 +74,7 @@ fn choose(
     seen: &[u64],
     aim: Aim,
 ) -> Choice
-    requires { ⌜ (length (now arcs) ≤ maxArcs) × (maxRecords + length (now arcs) ≤ length (now index))
-        × (length (now enter) ≡ 64) × (aim .n * 64 ≤ length (now work))
-        × (length (now seen) ≡ maxRecords) × (aim .n ≤ maxRecords) × (aim .at < maxRecords) × Indexed (arcFrom (now arcs)) (length (now arcs)) (now index) ⌝ }
+    requires { ⌜ ChooseAsked (now arcs) (now index) (now enter) (now work) (now seen) aim ⌝ }
     ensures { λ r. ⌜ Chosen (now (arcs .entry)) (now (enter .entry)) (now (work .entry)) (now (seen .entry))
         (aim .n) (aim .at) (aim .follows) (aim .distance) (length (now (arcs .entry))) 0 (r .word) (r .states) ⌝ }
 {
@@ -118,9 +115,7 @@ fn forward_by(
     route: Route,
     out: &mut [u32],
 )
-    requires { ⌜ (length (now arcs) ≤ maxArcs) × (length (now follow) ≡ 64) × (length (now enter) ≡ 64) × (route .n * 64 ≤ length (now work))
-        × (length (now seen) ≡ maxRecords) × (route .n ≤ maxRecords) × (route .from < route .n) × (route .steps ≤ length (now out))
-        × (maxRecords + length (now arcs) ≤ length (now index)) × Indexed (arcFrom (now arcs)) (length (now arcs)) (now index) ⌝ }
+    requires { ⌜ ByIndex arcFrom (now arcs) (now index) × WalkAsked (now follow) (now enter) (now work) (now seen) route (now out) ⌝ }
     ensures { λ _. ⌜ Walked (now (follow .entry)) (now (enter .entry)) (now (work .entry)) (now (seen .entry)) (now (arcs .entry))
         (length (now (arcs .entry))) (route .n) (route .from) (route .steps) (now (out .entry)) (now (out .exit)) ⌝ }
 {
@@ -156,8 +151,7 @@ pub(crate) fn forward(
     route: Route,
     out: &mut [u32],
 )
-    requires { ⌜ (length (now arcs) ≤ maxArcs) × (length (now follow) ≡ 64) × (length (now enter) ≡ 64) × (route .n * 64 ≤ length (now work))
-        × (length (now seen) ≡ maxRecords) × (route .n ≤ maxRecords) × (route .from < route .n) × (route .steps ≤ length (now out)) ⌝ }
+    requires { ⌜ (length (now arcs) ≤ maxArcs) × WalkAsked (now follow) (now enter) (now work) (now seen) route (now out) ⌝ }
     ensures { λ _. ⌜ Walked (now (follow .entry)) (now (enter .entry)) (now (work .entry)) (now (seen .entry)) (now (arcs .entry))
         (length (now (arcs .entry))) (route .n) (route .from) (route .steps) (now (out .entry)) (now (out .exit)) ⌝ }
 {

@@ -13,7 +13,15 @@ use Rattle.search.proofs.chain.along.Tie as tie
 backward-requires : tie.Need-backward-requires
 backward-requires c κs =
     let start = c .before .before .before .before .before .before .before .before in
-    let p = start .pre in (p .0, p .1, p .3, p .4, p .5, p .6, p .7, length-replicate {A = ℕ} 1024 0, zeros-at 1024)
+    let p = start .pre in (
+      p .few,
+      record {
+        tables = record { rows-long = p .predecessors-long; enter-long = p .tables .enter-long };
+        between = p .between;
+        seen-long = length-replicate {A = ℕ} 1024 0;
+        none-seen = zeros-at 1024;
+      },
+    )
 
 same-length : tie.Need-same-length
 same-length c = c .before .before .before .before .backward .kept .1 .1 .1 .1 .0
@@ -28,7 +36,8 @@ returns-2 : tie.Need-returns-2
 returns-2 c =
     let p = c .before .before .before .before .before .before .before .before .before .before .before .before .before .before .pre in
     let B = c .before .before .before .before .before .backward in
-    (too-long refl, λ g e S ux uy. answered-short g e _ (reached g e (B .ensures g _ _ S) (c .before .if1 .left)) (p .5) ux uy (c .if2 .taken))
+    let x = p .between .from-below in
+    (too-long refl, λ g e S ux uy. answered-short g e _ (reached g e (B .ensures g _ _ S) (c .before .if1 .left)) x ux uy (c .if2 .taken))
 
 forward-requires : tie.Need-forward-requires
 forward-requires c κs =
@@ -39,7 +48,15 @@ forward-requires c κs =
     let B = after-backward .backward in
     let k : length (B .last .1 .1 .1 .1 .0) ≡ length (start .args .work .now) = B .kept .1 .1 .1 .1 .0 in
     let long : length (B .last .1 .1 .1 .1 .1 .0) ≡ 1024 = B .kept .1 .1 .1 .1 .1 .0 ∙ length-replicate {A = ℕ} 1024 0 in
-    (p .0, p .2, p .4, omega (arith, k, p .7), long, p .1, p .5, else2 .if2 .left)
+    let b = p .between in (
+      p .few,
+      record {
+        tables = p .tables;
+        numbers = record { records = b .records; work-long = omega (arith, k, b .work-long); seen-long = long };
+        from-below = b .from-below;
+        fits = else2 .if2 .left;
+      },
+    )
 
 same-length-3 : tie.Need-same-length-3
 same-length-3 c = c .before .before .before .before .before .before .before .before .before .before .before .backward .kept .1 .1 .1 .1 .0
@@ -56,7 +73,7 @@ returns-3 c =
     let B = after-backward .backward in
     let f = c .before .before .forward .ensures in (
       written (else2 .if2 .left) (f .rest),
-      λ g e S ux uy. answered-first g e _ (reached g e (B .ensures g _ _ S) (else2 .before .if1 .left)) (p .5) ux uy S f,
+      λ g e S ux uy. answered-first g e _ (reached g e (B .ensures g _ _ S) (else2 .before .if1 .left)) (p .between .from-below) ux uy S f,
     )
 
 pub along-spec : {M : Type 1} → statement M

@@ -35,6 +35,28 @@ crossed-2 c =
     let part : a .result - 0 ≡ a .result = omega arith in
     rw part (crossings-take (a .last .1 .1 .0) (a .result) (omega (arith, long, a .ensures .0, start .pre .0)) (a .ensures .1))
 
+along-requires : tie.Need-along-requires
+along-requires c κs =
+    let after-arcs-of = c .before .before .before .before .before in
+    let p = after-arcs-of .before .before .before .before .before .before .before .before .before .pre in
+    record {
+      few = search needs;
+      tables = record { rows-long = p .2; enter-long = p .4 };
+      predecessors-long = p .3;
+      between = record { records = p .1; from-below = p .5; to-below = p .6; work-long = p .7 };
+    }
+
+along-requires-2 : tie.Need-along-requires-2
+along-requires-2 c κs =
+    let after-arcs-of2 = c .before .before .before .before .before in
+    let p = after-arcs-of2 .before .before .before .before .before .before .before .before .before .pre in
+    record {
+      few = search needs;
+      tables = record { rows-long = p .2; enter-long = p .4 };
+      predecessors-long = p .3;
+      between = record { records = p .1; from-below = p .5; to-below = p .6; work-long = p .7 };
+    }
+
 returns : tie.Need-returns
 returns c =
     let after-along = c .before .before .before .before in
@@ -57,9 +79,11 @@ pub first-chain-spec : {M : Type 1} → statement M
 first-chain-spec =
     tie.close
     (tie.spec
-    (λ c. search needs) (λ c κs. search needs) (λ c. search needs) (λ c. search needs) (λ c. search needs) (λ c κs. search needs) (λ c. search needs)
-    (λ c. search needs)
+    (λ c. search needs) (λ c κs. search needs) (λ c. search needs) (λ c. search needs) (λ c. search needs)
+    along-requires
+    (λ c. search needs) (λ c. search needs)
     returns
-    (λ c. search needs) (λ c κs. search needs) (λ c. search needs) (λ c. search needs) (λ c. search needs) (λ c κs. search needs) (λ c. search needs)
-    (λ c. search needs)
+    (λ c. search needs) (λ c κs. search needs) (λ c. search needs) (λ c. search needs) (λ c. search needs)
+    along-requires-2
+    (λ c. search needs) (λ c. search needs)
     returns-2)

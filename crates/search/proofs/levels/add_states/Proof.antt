@@ -20,13 +20,13 @@ room c =
     let start = else1 .before .before in
     let s = start .args in
     let p = start .pre in
-    list-room (p .4) (s .entry .at) (s .entry .states) (p .3) (omega arith) (state else1) (p .1) (c .if3 .left)
+    list-room (p .listed) (s .entry .at) (s .entry .states) (p .at-below) (omega arith) (state else1) (p .next-long) (c .if3 .left)
 
 returns : tie.Need-returns
-returns c = (c .before .before .pre .4, added-zero _ _ _ _ (c .if1 .taken))
+returns c = (c .before .before .pre .listed, added-zero _ _ _ _ (c .if1 .taken))
 
 returns-2 : tie.Need-returns-2
-returns-2 c = (c .before .before .before .before .pre .4, added-past _ _ _ _ (c .if2 .taken))
+returns-2 c = (c .before .before .before .before .pre .listed, added-past _ _ _ _ (c .if2 .taken))
 
 returns-3 : tie.Need-returns-3
 returns-3 c =
@@ -34,7 +34,7 @@ returns-3 c =
     let start = else1 .before .before in
     let s = start .args in
     let p = start .pre in (
-      listed-old (p .4) (s .entry .at) (s .entry .states) (p .3) (omega arith) (state else1) (p .1) (omega arith),
+      listed-old (p .listed) (s .entry .at) (s .entry .states) (p .at-below) (omega arith) (state else1) (p .next-long) (omega arith),
       added-more _ _ _ _ (omega arith) (omega arith),
     )
 
@@ -53,7 +53,7 @@ returns-4 c =
     let start = else1 .before .before in
     let s = start .args in
     let p = start .pre in (
-      listed-new (p .4) (s .entry .at) (s .entry .states) (p .3) (omega arith) (state else1) (p .1) (c .if3 .left) (p .2),
+      listed-new (p .listed) (s .entry .at) (s .entry .states) (p .at-below) (omega arith) (state else1) (p .next-long) (c .if3 .left) (p .list-long),
       added-more _ _ _ _ (omega arith) (omega arith),
     )
 

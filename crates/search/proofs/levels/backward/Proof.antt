@@ -20,7 +20,7 @@ backward-by-requires c κs =
     let p = start .pre in
     let X = after-index-by-reached .index-by-reached in
     let long : length (X .last .1 .0) ≡ 2048 = X .kept .1 .0 ∙ length-replicate {A = ℕ} 2048 0 in
-    (p .0, p .1, p .2, p .3, p .4, p .5, p .6, omega (arith, long, after-index-by-reached .before .before .if1 .taken), X .ensures, p .7, p .8)
+    (record { few = p .0; long = omega (arith, long, after-index-by-reached .before .before .if1 .taken); indexed = X .ensures }, p .1)
 
 index-by-reached-requires-2 : tie.Need-index-by-reached-requires-2
 index-by-reached-requires-2 c κs =
@@ -32,7 +32,7 @@ backward-by-requires-2 c κs =
     let p = c .before .before .before .before .before .before .before .before .before .before .before .before .pre in
     let X = c .before .before .before .before .index-by-reached2 in
     let long : length (X .last .1 .0) ≡ 9216 = X .kept .1 .0 ∙ length-replicate {A = ℕ} 9216 0 in
-    (p .0, p .1, p .2, p .3, p .4, p .5, p .6, omega (arith, long, p .0), X .ensures, p .7, p .8)
+    (record { few = p .0; long = omega (arith, long, p .0); indexed = X .ensures }, p .1)
 
 pub backward-spec : {M : Type 1} → statement M
 backward-spec =

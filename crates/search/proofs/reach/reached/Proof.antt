@@ -26,7 +26,12 @@ reach-requires : tie.Need-reach-requires
 reach-requires c κs =
     let after-arcs-of = c .before .before .before in
     let p = after-arcs-of .before .before .before .before .before .pre in
-    (omega (arith, part-long after-arcs-of, after-arcs-of .arcs-of .ensures .0), p .1, p .2, p .3, p .4)
+    record {
+      few = omega (arith, part-long after-arcs-of, after-arcs-of .arcs-of .ensures .0, p .0);
+      tables = record { rows-long = p .1; enter-long = p .2 };
+      records = p .3;
+      from-below = p .4;
+    }
 
 -- those that count, alone, are the crossings
 crossed : (c : tie.After-arcs-of)

@@ -24,13 +24,14 @@ abbrev μ-loop : tie.MeasureT-loop
 first-arc-requires : tie.Need-first-arc-requires Inv-loop μ-loop
 first-arc-requires c κs =
     let start = c .before .before .before .before .before in
-    omega (arith, start .pre .1, start .pre .6)
+    omega (arith, start .pre .by-index .long, start .pre .at-below)
 
 loop-holds : tie.Need-loop-holds Inv-loop μ-loop
 loop-holds c =
     let p = c .before .before .before .before .before .before .pre in
-    let T = p .7 .first-at _ (p .6) in
-    rw (c .first-arc .ensures) (T, chosen-first (chosen-none _ _ _ _ _ _ _ _ _) (T .0) (before-first (p .7)))
+    let X = p .by-index .indexed in
+    let T = X .first-at _ (p .at-below) in
+    rw (c .first-arc .ensures) (T, chosen-first (chosen-none _ _ _ _ _ _ _ _ _) (T .0) (before-first X))
 
 -- the arc at which the cursor stands
 stands : (c : tie.In-loop Inv-loop μ-loop)
@@ -48,13 +49,14 @@ next-arc-requires : tie.Need-next-arc-requires Inv-loop μ-loop
 next-arc-requires c κs =
     let in-loop = c .before .before .before .before .before .before in
     let start = in-loop .before .before .before .before .before .before .before .before in
-    (omega (arith, stands in-loop, start .pre .1), omega (arith, stands in-loop))
+    let X = start .pre .by-index in
+    (omega (arith, stands in-loop, X .long), omega (arith, stands in-loop, X .few))
 
 loop-less : tie.Need-loop-less Inv-loop μ-loop
 loop-less c =
     let in-loop = c .before .before .before .before .before .before .before in
     let start = in-loop .before .before .before .before .before .before .before .before in
-    omega (arith, c .next-arc .ensures, stands in-loop, next-falls (start .pre .7) (in-loop .before .loop .inv .0) (stands in-loop .0))
+    omega (arith, c .next-arc .ensures, stands in-loop, next-falls (start .pre .by-index .indexed) (in-loop .before .loop .inv .0) (stands in-loop .0))
 
 loop-again : tie.Need-loop-again Inv-loop μ-loop
 unfolding arcFrom arcTo arcLetter
@@ -63,7 +65,7 @@ loop-again c =
     let in-loop = after-kept .before .before .before .before .before in
     let start = in-loop .before .before .before .before .before .before .before .before in
     let l = in-loop .before .loop in
-    let X = start .pre .7 in
+    let X = start .pre .by-index .indexed in
     let C = l .inv .0 in
     let z = stands in-loop in
     rw (c .next-arc .ensures) (

@@ -18,7 +18,7 @@ forward-by-requires c κs =
     let p = c .before .before .before .before .before .before .before .before .before .before .before .before .pre in
     let X = c .before .before .before .index-by-left in
     let long : length (X .last .1 .0) ≡ 2048 = X .kept .1 .0 ∙ length-replicate {A = ℕ} 2048 0 in
-    (p .0, p .1, p .2, p .3, p .4, p .5, p .6, p .7, omega (arith, long, c .before .before .before .before .before .if1 .taken), X .ensures)
+    (record { few = p .0; long = omega (arith, long, c .before .before .before .before .before .if1 .taken); indexed = X .ensures }, p .1)
 
 index-by-left-requires-2 : tie.Need-index-by-left-requires-2
 index-by-left-requires-2 c κs =
@@ -30,7 +30,7 @@ forward-by-requires-2 c κs =
     let p = c .before .before .before .before .before .before .before .before .before .before .before .before .pre in
     let X = c .before .before .before .index-by-left2 in
     let long : length (X .last .1 .0) ≡ 9216 = X .kept .1 .0 ∙ length-replicate {A = ℕ} 9216 0 in
-    (p .0, p .1, p .2, p .3, p .4, p .5, p .6, p .7, omega (arith, long, p .0), X .ensures)
+    (record { few = p .0; long = omega (arith, long, p .0); indexed = X .ensures }, p .1)
 
 pub forward-spec : {M : Type 1} → statement M
 forward-spec =
