@@ -71,16 +71,13 @@ fn into(
             entry.states & enter[arc / LETTER_UNIT % LETTERS],
         );
         let states = before & !seen[from];
-        queued = add_states(
-            next,
-            list,
-            Entry {
-                at: from,
-                states,
-                n,
-                queued,
-            },
-        );
+        let added = Entry {
+            at: from,
+            states,
+            n,
+            queued,
+        };
+        queued = add_states(next, list, added);
         cursor = arcs::next_arc(index, j);
     }
     queued

@@ -51,16 +51,13 @@ fn out_of(
         let old = seen[to];
         let states = entry.states & enter[arc / LETTER_UNIT % LETTERS] & !old;
         seen[to] = old | states;
-        queued = add_states(
-            pending,
-            list,
-            Entry {
-                at: to,
-                states,
-                n,
-                queued,
-            },
-        );
+        let added = Entry {
+            at: to,
+            states,
+            n,
+            queued,
+        };
+        queued = add_states(pending, list, added);
         cursor = arcs::next_arc(index, j);
     }
     queued
@@ -95,21 +92,13 @@ fn reach(
         let at = list[last] as usize;
         let states = spread(follow, pending[at]);
         pending[at] = 0;
-        let entry = Entry {
+        let top = Entry {
             at,
             states,
             n,
             queued: last,
         };
-        count = out_of(
-            arcs,
-            &index,
-            enter,
-            &mut seen,
-            &mut pending,
-            &mut list,
-            entry,
-        );
+        count = out_of(arcs, &index, enter, &mut seen, &mut pending, &mut list, top);
     }
     seen
 }

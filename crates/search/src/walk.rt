@@ -13,40 +13,24 @@ ghost use Rattle.arcs.specs.Arcs.{maxArcs, arcFrom};
 ghost use Rattle.search.specs.Steps.{Kept, Chosen, Better, Walked};
 ghost use Rattle.search.specs.Room.{ByIndex, ChooseAsked, WalkAsked};
 
-// Those of the states whose number at a record is the distance, each looked at.
-fn kept_each(work: &[u64], n: usize, at: usize, states: u64, distance: u64) -> u64
-    requires { ⌜ (n * 64 ≤ length (now work)) × (n ≤ maxRecords) × (at < n) ⌝ }
-    ensures { λ r. ⌜ Kept (now (work .entry)) n at states distance 0 r ⌝ }
-{
-    let mut found = 0;
-    let mut left = states;
-    while left != 0 {
-        let q = u64::trailing_zeros(left) as usize;
-        if work[at * 64 + q] == distance {
-            found = found | (1 << q);
-        }
-        left = left & (left - 1);
-    }
-    found
-}
-
-// Those of the states whose number at a record below n is the distance: most often all of them, which then need not be gathered.
+// Those of the states whose number at a record below n is the distance: most often all of them, so the others are taken out.
 fn kept(work: &[u64], n: usize, at: usize, states: u64, distance: u64) -> u64
     requires { ⌜ (n * 64 ≤ length (now work)) × (n ≤ maxRecords) ⌝ }
-    ensures { λ r. ⌜ Kept (now (work .entry)) n at states distance 0 r ⌝ }
+    ensures { λ r. ⌜ Kept (now (work .entry)) n at states distance r ⌝ }
 {
     if n <= at {
         return 0;
     }
+    let mut found = states;
     let mut left = states;
     while left != 0 {
         let q = u64::trailing_zeros(left) as usize;
         if work[at * 64 + q] != distance {
-            return kept_each(work, n, at, states, distance);
+            found = found & !(1 << q);
         }
         left = left & (left - 1);
     }
-    states
+    found
 }
 
 // No step word: each is less.
