@@ -10,9 +10,22 @@ use Rattle.search.proofs.AnswerLaws.{answered-none, reached, answered-s
 use Rattle.search.proofs.chain.along.Statement.{statement}
 use Rattle.search.proofs.chain.along.Tie as tie
 
+-- The places that the needs come back to.
+abbrev start-of-seen : tie.After-seen → tie.Start
+start-of-seen p = let at-shared-slice-known3 = p .before .before .before .before .before in at-shared-slice-known3 .before .before .before
+
+abbrev start-of-backward : tie.After-backward → tie.Start
+start-of-backward p = start-of-seen (p .before)
+
+abbrev backward-of-forward : tie.After-forward → tie.After-backward
+backward-of-forward p = let at-else1 = p .before .before .before .before .before in at-else1 .before .before .before .before
+
+abbrev forward-of-slice-known4 : tie.After-slice-known4 → tie.After-forward
+forward-of-slice-known4 p = p .before .before
+
 backward-requires : tie.Need-backward-requires
 backward-requires c κs =
-    let start = c .before .before .before .before .before .before .before .before in
+    let start = start-of-seen c in
     let p = start .pre in (
       p .few,
       record {
@@ -34,8 +47,9 @@ same-length-2 c = c .before .before .before .before .before .backward .kept .1 .
 
 returns-2 : tie.Need-returns-2
 returns-2 c =
-    let p = c .before .before .before .before .before .before .before .before .before .before .before .before .before .before .pre in
-    let B = c .before .before .before .before .before .backward in
+    let after-backward = c .before .before .before .before .before in
+    let p = start-of-backward after-backward .pre in
+    let B = after-backward .backward in
     let x = p .between .from-below in
     (too-long refl, λ g e S ux uy. answered-short g e _ (reached g e (B .ensures g _ _ S) (c .before .if1 .left)) x ux uy (c .if2 .taken))
 
@@ -43,7 +57,7 @@ forward-requires : tie.Need-forward-requires
 forward-requires c κs =
     let else2 = c .before .before .before in
     let after-backward = else2 .before .before .before .before .before in
-    let start = after-backward .before .before .before .before .before .before .before .before .before in
+    let start = start-of-backward after-backward in
     let p = start .pre in
     let B = after-backward .backward in
     let k : length (B .last .1 .1 .1 .1 .0) ≡ length (start .args .work .now) = B .kept .1 .1 .1 .1 .0 in
@@ -59,16 +73,16 @@ forward-requires c κs =
     )
 
 same-length-3 : tie.Need-same-length-3
-same-length-3 c = c .before .before .before .before .before .before .before .before .before .before .before .backward .kept .1 .1 .1 .1 .0
+same-length-3 c = backward-of-forward (c .before .before) .backward .kept .1 .1 .1 .1 .0
 
 same-length-4 : tie.Need-same-length-4
 same-length-4 c = c .before .before .forward .kept .1 .1 .1 .1 .1 .1 .0
 
 returns-3 : tie.Need-returns-3
 returns-3 c =
-    let else2 = c .before .before .before .before .before .before in
+    let else2 = forward-of-slice-known4 c .before .before .before .before in
     let after-backward = else2 .before .before .before .before .before in
-    let start = after-backward .before .before .before .before .before .before .before .before .before in
+    let start = start-of-backward after-backward in
     let p = start .pre in
     let B = after-backward .backward in
     let f = c .before .before .forward .ensures in (

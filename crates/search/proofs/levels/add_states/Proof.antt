@@ -10,11 +10,15 @@ use Rattle.search.proofs.FrontierLaws.{added-zero, added-past, added-mo
 use Rattle.search.proofs.levels.add_states.Statement.{statement}
 use Rattle.search.proofs.levels.add_states.Tie as tie
 
+-- The places that the needs come back to.
+abbrev start-of-else3 : tie.Else3 → tie.Start
+start-of-else3 p = let at-else1 = p .before .before .before .before .before in at-else1 .before .before
+
 -- there is a state to add
 state : (c : tie.Else1) → (q : ℕ) × (q < 64) × On (digit (c .before .before .args .entry .states) q)
 state c = some-digit 64 (c .before .before .args .entry .states) (omega arith) (omega arith)
 
-room : (c : tie.Else3) → c .before .before .before .before .before .before .before .args .entry .queued < 1024
+room : (c : tie.Else3) → (start-of-else3 c) .args .entry .queued < 1024
 room c =
     let else1 = c .before .before .before .before .before in
     let start = else1 .before .before in

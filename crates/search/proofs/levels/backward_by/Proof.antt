@@ -65,14 +65,67 @@ abbrev μ-loop : tie.MeasureT-loop
     list₀ records₀ masks₀ count₀ level₀ work seen next list records masks count level =
     n * 64 - onesBelow (bitAt seen) (n * 64)
 
+-- The places that the needs come back to.
+abbrev start-of-stamp : tie.After-stamp Inv-loop2 μ-loop2 Inv-loop μ-loop → tie.Start Inv-loop2 μ-loop2 Inv-loop μ-loop
+start-of-stamp p = let at-shared-slice-known3 = p .before .before .before .before .before in at-shared-slice-known3 .before .before .before
+
+abbrev start-of-loop : tie.At-loop Inv-loop2 μ-loop2 Inv-loop μ-loop → tie.Start Inv-loop2 μ-loop2 Inv-loop μ-loop
+start-of-loop p = start-of-stamp (p .before .before .before)
+
+abbrev loop2-of-into : tie.After-into Inv-loop2 μ-loop2 Inv-loop μ-loop → tie.At-loop2 Inv-loop2 μ-loop2 Inv-loop μ-loop
+loop2-of-into p = p .before .before .before .before .before
+
+abbrev start-of-loop2-end : tie.After-loop2 Inv-loop2 μ-loop2 Inv-loop μ-loop → tie.Start Inv-loop2 μ-loop2 Inv-loop μ-loop
+start-of-loop2-end p = start-of-loop (p .before .before .before .before)
+
+abbrev stamp-of-loop2-end : tie.After-loop2 Inv-loop2 μ-loop2 Inv-loop μ-loop → tie.After-stamp Inv-loop2 μ-loop2 Inv-loop μ-loop
+stamp-of-loop2-end p = let at-loop = p .before .before .before .before in at-loop .before .before .before
+
+abbrev loop2-of-loop2-end : tie.After-loop2 Inv-loop2 μ-loop2 Inv-loop μ-loop → tie.At-loop2 Inv-loop2 μ-loop2 Inv-loop μ-loop
+loop2-of-loop2-end p = p .before
+
+abbrev loop-of-commit-arg3 : tie.After-commit-arg3 Inv-loop2 μ-loop2 Inv-loop μ-loop → tie.At-loop Inv-loop2 μ-loop2 Inv-loop μ-loop
+loop-of-commit-arg3 p = let at-else2 = p .before .before .before .before .before in at-else2 .before .before .before .before .before
+
+abbrev loop-of-records : tie.After-records Inv-loop2 μ-loop2 Inv-loop μ-loop → tie.At-loop Inv-loop2 μ-loop2 Inv-loop μ-loop
+loop-of-records p = loop-of-commit-arg3 (p .before)
+
+abbrev loop-of-masks : tie.After-masks Inv-loop2 μ-loop2 Inv-loop μ-loop → tie.At-loop Inv-loop2 μ-loop2 Inv-loop μ-loop
+loop-of-masks p = loop-of-records (p .before)
+
+abbrev loop2-of-masks : tie.After-masks Inv-loop2 μ-loop2 Inv-loop μ-loop → tie.At-loop2 Inv-loop2 μ-loop2 Inv-loop μ-loop
+loop2-of-masks p = let at-commit-arg2 = p .before .before .before .before .before in at-commit-arg2 .before .before .before .before
+
+abbrev loop2-end-of-masks : tie.After-masks Inv-loop2 μ-loop2 Inv-loop μ-loop → tie.After-loop2 Inv-loop2 μ-loop2 Inv-loop μ-loop
+loop2-end-of-masks p = let at-commit-arg2 = p .before .before .before .before .before in at-commit-arg2 .before .before .before
+
+abbrev loop-of-commit : tie.After-commit Inv-loop2 μ-loop2 Inv-loop μ-loop → tie.At-loop Inv-loop2 μ-loop2 Inv-loop μ-loop
+loop-of-commit p = loop-of-masks (p .before)
+
+abbrev else2-of-commit : tie.After-commit Inv-loop2 μ-loop2 Inv-loop μ-loop → tie.Else2 Inv-loop2 μ-loop2 Inv-loop μ-loop
+else2-of-commit p = let at-next3 = p .before .before .before .before .before in at-next3 .before .before .before
+
+abbrev commit-of-masks2 : tie.After-masks2 Inv-loop2 μ-loop2 Inv-loop μ-loop → tie.After-commit Inv-loop2 μ-loop2 Inv-loop μ-loop
+commit-of-masks2 p = let at-slice-known5 = p .before .before .before .before .before in at-slice-known5 .before .before
+
+abbrev else2-of-masks2 : tie.After-masks2 Inv-loop2 μ-loop2 Inv-loop μ-loop → tie.Else2 Inv-loop2 μ-loop2 Inv-loop μ-loop
+else2-of-masks2 p =
+    let at-slice-known5 = p .before .before .before .before .before in
+    let at-commit = at-slice-known5 .before .before in
+    let at-next3 = at-commit .before .before .before .before .before in
+    at-next3 .before .before .before
+
+abbrev stamp-of-loop : tie.At-loop Inv-loop2 μ-loop2 Inv-loop μ-loop → tie.After-stamp Inv-loop2 μ-loop2 Inv-loop μ-loop
+stamp-of-loop p = p .before .before .before
+
 slice-write-seen : tie.Need-slice-write-seen Inv-loop2 μ-loop2 Inv-loop μ-loop
 slice-write-seen c =
-    let p = c .before .before .before .before .before .before .before .before .before .before .pre .1 in
+    let p = start-of-stamp (c .before .before) .pre .1 in
     omega (arith, p .between, p .seen-long)
 
 loop-holds : tie.Need-loop-holds Inv-loop2 μ-loop2 Inv-loop μ-loop
 loop-holds c =
-    let start = c .before .before .before .before .before .before .before .before .before .before in
+    let start = start-of-stamp (c .before .before) in
     let p = start .pre .1 in
     let s = start .args in
     let y : ℕ = s .ends .to in
@@ -98,7 +151,7 @@ loop-holds c =
 
 slice-read-if1 : tie.Need-slice-read-if1 Inv-loop2 μ-loop2 Inv-loop μ-loop
 slice-read-if1 c =
-    let start = c .before .before .before .before .before .before .before .before .before .before .before .before in
+    let start = start-of-loop (c .before) in
     omega (arith, start .pre .1 .between, c .before .loop .inv .seen-long)
 
 loop2-holds : tie.Need-loop2-holds Inv-loop2 μ-loop2 Inv-loop μ-loop
@@ -129,7 +182,7 @@ into-requires : tie.Need-into-requires Inv-loop2 μ-loop2 Inv-loop μ-loop
 into-requires c κs =
     let in-loop2 = c .before .before .before in
     let at-loop = in-loop2 .before .before .before .before in
-    let start = at-loop .before .before .before .before .before .before .before .before .before .before .before in
+    let start = start-of-loop at-loop in
     let p = start .pre in
     let l = in-loop2 .before .loop2 .inv in (
       p .1 .tables .rows-long,
@@ -150,7 +203,7 @@ into-requires c κs =
 
 loop2-again : tie.Need-loop2-again Inv-loop2 μ-loop2 Inv-loop μ-loop
 loop2-again c =
-    let l = c .before .before .before .before .before .before .before .loop2 in
+    let l = loop2-of-into (c .before .before) .loop2 in
     let P = c .before .before .into in
     record {
       i-most = omega arith;
@@ -163,7 +216,7 @@ loop2-again c =
 -- the level is made
 made : (c : tie.After-loop2 Inv-loop2 μ-loop2 Inv-loop μ-loop)
     → let at-loop = c .before .before .before .before in
-    let start = c .before .before .before .before .before .before .before .before .before .before .before .before .before .before .before in
+    let start = start-of-loop2-end c in
     (cur : List ℕ) → Frontier (at-loop .loop .records) (at-loop .loop .masks) (at-loop .loop .count) cur
     → Levelled (start .args .arcs .now) (start .args .predecessors .now) (start .args .enter .now) cur
     (at-loop .loop .seen) (start .args .ends .n) (length (start .args .arcs .now)) (c .before .loop2 .next)
@@ -181,8 +234,8 @@ part-long c =
     length-take-le (l .queued - 0) (l .list) (omega (arith, l .inv .list-long))
 
 listed-part : (c : tie.After-loop2 Inv-loop2 μ-loop2 Inv-loop μ-loop)
-    → let earlier = c .before .before .before .before .before .before .before in
-    let start = earlier .before .before .before .before .before .before .before .before in
+    → let earlier = stamp-of-loop2-end c in
+    let start = start-of-stamp earlier in
     Listed (take (c .before .loop2 .queued - 0) (c .before .loop2 .list))
     (length (take (c .before .loop2 .queued - 0) (c .before .loop2 .list))) (start .args .ends .n) (c .before .loop2 .next)
 listed-part c =
@@ -199,12 +252,12 @@ same-length c =
 same-length-2 : tie.Need-same-length-2 Inv-loop2 μ-loop2 Inv-loop μ-loop
 same-length-2 c =
     let at-loop = c .before .before .before .before .before in
-    let start = at-loop .before .before .before .before .before .before .before .before .before .before .before in
+    let start = start-of-loop at-loop in
     at-loop .loop .inv .seen-long ∙ sym (start .pre .1 .seen-long)
 
 returns : tie.Need-returns Inv-loop2 μ-loop2 Inv-loop μ-loop
 returns c =
-    let start = c .before .before .before .before .before .before .before .before .before .before .before .before .before .before .before .before in
+    let start = start-of-loop2-end (c .before) in
     let i = c .before .before .before .before .before .loop .inv in
     let none = none-listed (c .before .before .loop2 .inv .listed) (c .if2 .taken) in
     let unseen = digit-zero _ ∙ c .before .before .before .if1 .taken in
@@ -217,30 +270,30 @@ slice-aggregate-commit c = sym (c .before .before .before .before .before .loop2
 
 part-commit-end : tie.Need-part-commit-end Inv-loop2 μ-loop2 Inv-loop μ-loop
 part-commit-end c =
-    let at-loop2 = c .before .before .before .before .before .before in
+    let at-loop2 = loop2-of-loop2-end (c .before .before .before .before .before) in
     let h = listed-fits (at-loop2 .loop2 .inv .listed) in omega (arith, at-loop2 .loop2 .inv .list-long)
 
 add-commit : tie.Need-add-commit Inv-loop2 μ-loop2 Inv-loop μ-loop
 add-commit c =
-    let at-loop = c .before .before .before .before .before .before .before .before .before .before in
-    let start = at-loop .before .before .before .before .before .before .before .before .before .before .before in
+    let at-loop = loop-of-commit-arg3 c in
+    let start = start-of-loop at-loop in
     let p = start .pre .1 .between .records in
     let i = at-loop .loop .inv .level-most in
     omega (arith, bits-few (at-loop .loop .seen) (start .args .ends .n * 64))
 
 slice-aggregate-commit-2 : tie.Need-slice-aggregate-commit-2 Inv-loop2 μ-loop2 Inv-loop μ-loop
-slice-aggregate-commit-2 c = sym (c .before .before .before .before .before .before .before .before .before .before .before .loop .inv .records-long)
+slice-aggregate-commit-2 c = sym (loop-of-records c .loop .inv .records-long)
 
 slice-aggregate-commit-3 : tie.Need-slice-aggregate-commit-3 Inv-loop2 μ-loop2 Inv-loop μ-loop
-slice-aggregate-commit-3 c = sym (c .before .before .before .before .before .before .before .before .before .before .before .before .loop .inv .masks-long)
+slice-aggregate-commit-3 c = sym (loop-of-masks c .loop .inv .masks-long)
 
 commit-requires : tie.Need-commit-requires Inv-loop2 μ-loop2 Inv-loop μ-loop
 commit-requires c κs =
-    let at-loop2 = c .before .before .before .before .before .before .before .before .before in
+    let at-loop2 = loop2-of-masks c in
     let at-loop = at-loop2 .before .before .before in
     let after-stamp = at-loop .before .before .before in
-    let start = after-stamp .before .before .before .before .before .before .before .before in
-    let after-loop2 = c .before .before .before .before .before .before .before .before in
+    let start = start-of-stamp after-stamp in
+    let after-loop2 = loop2-end-of-masks c in
     let k : length (after-stamp .stamp .last .0) ≡ length (start .args .work .now) = after-stamp .stamp .kept .0 in
     let b = start .pre .1 .between in
     let i = at-loop .loop .inv in
@@ -260,11 +313,11 @@ commit-requires c κs =
 
 -- the level is not empty, so that more states are seen
 grows : (c : tie.After-commit Inv-loop2 μ-loop2 Inv-loop μ-loop)
-    → let at-loop = c .before .before .before .before .before .before .before .before .before .before .before .before .before in
-    let start = at-loop .before .before .before .before .before .before .before .before .before .before .before in
+    → let at-loop = loop-of-commit c in
+    let start = start-of-loop at-loop in
     onesBelow (bitAt (at-loop .loop .seen)) (start .args .ends .n * 64) < onesBelow (bitAt (c .commit .last .1 .0)) (start .args .ends .n * 64)
 grows c =
-    let else2 = c .before .before .before .before .before .before .before .before in
+    let else2 = else2-of-commit c in
     let at-loop = else2 .before .before .before .before .before in
     let after-loop2 = else2 .before in
     let i = at-loop .loop .inv in
@@ -276,28 +329,28 @@ grows c =
 
 add-level : tie.Need-add-level Inv-loop2 μ-loop2 Inv-loop μ-loop
 add-level c =
-    let earlier = c .before .before .before .before .before .before .before .before .before .before in
-    let at-loop = earlier .before .before .before .before .before .before .before .before .before .before in
-    let start = at-loop .before .before .before .before .before .before .before .before .before .before .before in
+    let earlier = commit-of-masks2 c .before .before .before in
+    let at-loop = loop-of-commit-arg3 earlier in
+    let start = start-of-loop at-loop in
     let h = start .pre .1 .between .records in
     let i = at-loop .loop .inv .level-most in
     omega (arith, bits-few (at-loop .loop .seen) (start .args .ends .n * 64))
 
 loop-less : tie.Need-loop-less Inv-loop2 μ-loop2 Inv-loop μ-loop
 loop-less c =
-    let earlier = c .before .before .before .before .before .before .before .before .before .before .before .before .before .before .before in
-    let earlier′ = earlier .before .before .before .before .before .before .before .before in
-    let start = earlier′ .before .before .before .before .before .before .before .before in
-    let after-commit = c .before .before .before .before .before .before .before in
+    let earlier = else2-of-masks2 c in
+    let earlier′ = stamp-of-loop2-end (earlier .before) in
+    let start = start-of-stamp earlier′ in
+    let after-commit = commit-of-masks2 c in
     omega (arith, grows after-commit, bits-few (after-commit .commit .last .1 .0) (start .args .ends .n * 64))
 
 loop-again : tie.Need-loop-again Inv-loop2 μ-loop2 Inv-loop μ-loop
 loop-again c =
-    let earlier = c .before .before .before .before .before .before .before .before in
-    let at-loop2 = earlier .before .before .before .before .before .before .before .before .before in
+    let earlier = commit-of-masks2 c .before in
+    let at-loop2 = loop2-of-masks earlier in
     let at-loop = at-loop2 .before .before .before in
-    let after-commit = c .before .before .before .before .before .before .before in
-    let after-loop2 = earlier .before .before .before .before .before .before .before .before in
+    let after-commit = commit-of-masks2 c in
+    let after-loop2 = loop2-end-of-masks earlier in
     let l = at-loop .loop in
     let m = at-loop2 .loop2 in
     let done = after-commit .commit in
@@ -324,27 +377,30 @@ slice-read-result : tie.Need-slice-read-result Inv-loop2 μ-loop2 Inv-loop μ-lo
 slice-read-result c =
     let at-loop = c .before .before .before in
     let after-stamp = at-loop .before .before .before in
-    let start = after-stamp .before .before .before .before .before .before .before .before in
+    let start = start-of-stamp after-stamp in
     let k : length (after-stamp .stamp .last .0) ≡ length (start .args .work .now) = after-stamp .stamp .kept .0 in
     let b = start .pre .1 .between in
     let i = at-loop .loop .inv .work-as-long in
     omega (arith, b .from-below, b .work-long)
 
 same-length-3 : tie.Need-same-length-3 Inv-loop2 μ-loop2 Inv-loop μ-loop
-same-length-3 c = c .before .before .before .loop .inv .work-as-long ∙ c .before .before .before .before .before .before .stamp .kept .0
+same-length-3 c =
+    let at-loop = c .before .before .before in
+    at-loop .loop .inv .work-as-long ∙ (stamp-of-loop at-loop) .stamp .kept .0
 
 same-length-4 : tie.Need-same-length-4 Inv-loop2 μ-loop2 Inv-loop μ-loop
 same-length-4 c =
     let at-loop = c .before .before .before in
-    let start = at-loop .before .before .before .before .before .before .before .before .before .before .before in
+    let start = start-of-loop at-loop in
     at-loop .loop .inv .seen-long ∙ sym (start .pre .1 .seen-long)
 
 returns-2 : tie.Need-returns-2 Inv-loop2 μ-loop2 Inv-loop μ-loop
 unfolding numberAt
 returns-2 c =
-    let start = c .before .before .before .before .before .before .before .before .before .before .before .before .before .before in
+    let at-loop = c .before .before .before in
+    let start = start-of-loop at-loop in
     let s = start .args .ends in
-    let l = c .before .before .before .loop in
+    let l = at-loop .loop in
     let z : s .from * 64 + 0 ≡ s .from * 64 = omega arith in
     let odd = c .before .if1 .left in
     λ g M fs S. rw z at

@@ -26,6 +26,22 @@ Inv-loop work₀ seen₀ next₀ list mark records₀ masks₀ i₀ work seen ne
 abbrev μ-loop : tie.MeasureT-loop
 μ-loop work₀ seen₀ next₀ list mark records₀ masks₀ i₀ work seen next records masks i = length list - i
 
+-- The places that the needs come back to.
+abbrev start-of-loop : tie.At-loop Inv-loop μ-loop → tie.Start Inv-loop μ-loop
+start-of-loop p = let at-slice-known2 = p .before .before .before .before .before in at-slice-known2 .before .before
+
+abbrev stamp-of-slice-known7 : tie.After-slice-known7 Inv-loop μ-loop → tie.After-stamp Inv-loop μ-loop
+stamp-of-slice-known7 p = p .before .before
+
+abbrev stamp-of-slice-known8 : tie.After-slice-known8 Inv-loop μ-loop → tie.After-stamp Inv-loop μ-loop
+stamp-of-slice-known8 p = p .before .before .before
+
+abbrev loop-of-stamp : tie.After-stamp Inv-loop μ-loop → tie.At-loop Inv-loop μ-loop
+loop-of-stamp p = p .before .before .before .before .before
+
+abbrev start-of-loop-end : tie.After-loop Inv-loop μ-loop → tie.Start Inv-loop μ-loop
+start-of-loop-end p = start-of-loop (p .before)
+
 loop-holds : tie.Need-loop-holds Inv-loop μ-loop
 loop-holds c =
     record {
@@ -40,9 +56,9 @@ loop-holds c =
 
 -- the record at i
 inside : (c : tie.In-loop Inv-loop μ-loop)
-    → let start = c .before .before .before .before .before .before .before .before in
+    → let start = start-of-loop (c .before) in
     getD (start .args .list .now) (c .before .loop .i) 0 < start .pre .n
-inside c = c .before .before .before .before .before .before .before .before .pre .listed .small (c .before .loop .i) (omega arith)
+inside c = start-of-loop (c .before) .pre .listed .small (c .before .loop .i) (omega arith)
 
 cast-at : tie.Need-cast-at Inv-loop μ-loop
 cast-at c = omega (arith, inside (c .before))
@@ -57,33 +73,33 @@ stamp-requires : tie.Need-stamp-requires Inv-loop μ-loop
 stamp-requires c κs = let z = inside (c .before .before .before) in (omega arith, omega arith)
 
 mul-seen : tie.Need-mul-seen Inv-loop μ-loop
-mul-seen c = omega (arith, inside (c .before .before .before .before .before .before))
+mul-seen c = omega (arith, inside (stamp-of-slice-known7 c .before .before .before .before))
 
 slice-read-seen : tie.Need-slice-read-seen Inv-loop μ-loop
-slice-read-seen c = omega (arith, inside (c .before .before .before .before .before .before .before))
+slice-read-seen c = omega (arith, inside (stamp-of-slice-known8 c .before .before .before .before))
 
 mul-seen-2 : tie.Need-mul-seen-2 Inv-loop μ-loop
-mul-seen-2 c = omega (arith, inside (c .before .before .before .before .before .before .before))
+mul-seen-2 c = omega (arith, inside (stamp-of-slice-known8 c .before .before .before .before))
 
 slice-write-seen : tie.Need-slice-write-seen Inv-loop μ-loop
-slice-write-seen c = omega (arith, inside (c .before .before .before .before .before .before .before))
+slice-write-seen c = omega (arith, inside (stamp-of-slice-known8 c .before .before .before .before))
 
 mul-next : tie.Need-mul-next Inv-loop μ-loop
-mul-next c = omega (arith, inside (c .before .before .before .before .before .before .before))
+mul-next c = omega (arith, inside (stamp-of-slice-known8 c .before .before .before .before))
 
 slice-write-next : tie.Need-slice-write-next Inv-loop μ-loop
-slice-write-next c = omega (arith, inside (c .before .before .before .before .before .before .before))
+slice-write-next c = omega (arith, inside (stamp-of-slice-known8 c .before .before .before .before))
 
 cast-records : tie.Need-cast-records Inv-loop μ-loop
 cast-records c =
-    let at-loop = c .before .before .before .before .before .before .before .before .before in
+    let at-loop = loop-of-stamp (c .before .before .before .before) in
     omega (arith, c .shared-slice-known3 .given (at-loop .loop .i) .fits)
 
 loop-again : tie.Need-loop-again Inv-loop μ-loop
 loop-again c =
     let after-stamp = c .before .before .before .before in
     let in-loop = after-stamp .before .before .before .before in
-    let start = in-loop .before .before .before .before .before .before .before .before in
+    let start = start-of-loop (in-loop .before) in
     let l = in-loop .before .loop in
     let T = after-stamp .stamp in
     let z = inside in-loop in
@@ -115,7 +131,7 @@ same-length-5 c = c .before .loop .inv .masks-as-long
 
 returns : tie.Need-returns Inv-loop μ-loop
 returns c =
-    let start = c .before .before .before .before .before .before .before .before in
+    let start = start-of-loop-end c in
     let l = c .before .loop in
     let p = start .pre in
     let e : l .i ≡ length (start .args .list .now) = omega arith in

@@ -32,20 +32,42 @@ Inv-loop arcs index predecessors enter seen next₀ list₀ entry n listed₀ cu
 abbrev μ-loop : tie.MeasureT-loop
 μ-loop arcs index predecessors enter seen next₀ list₀ entry n listed₀ cursor₀ next list queued cursor = cursor
 
+-- The places that the needs come back to.
+abbrev start-of-loop : tie.At-loop Inv-loop μ-loop → tie.Start Inv-loop μ-loop
+start-of-loop p =
+    let at-first-arc = p .before in
+    let at-shared-slice-known3 = at-first-arc .before .before .before .before .before in
+    at-shared-slice-known3 .before .before .before
+
+abbrev start-of-slice-known2 : tie.After-slice-known2 Inv-loop μ-loop → tie.Start Inv-loop μ-loop
+start-of-slice-known2 p = let at-shared-slice-known2 = p .before .before .before .before .before in at-shared-slice-known2 .before .before
+
+abbrev start-of-first-arc : tie.After-first-arc Inv-loop μ-loop → tie.Start Inv-loop μ-loop
+start-of-first-arc p = start-of-slice-known2 (p .before)
+
+abbrev loop-of-spread : tie.After-spread Inv-loop μ-loop → tie.At-loop Inv-loop μ-loop
+loop-of-spread p = p .before .before .before .before .before
+
+abbrev spread-of-add-states : tie.After-add-states Inv-loop μ-loop → tie.After-spread Inv-loop μ-loop
+spread-of-add-states p = p .before .before .before .before
+
+abbrev spread-of-next-arc : tie.After-next-arc Inv-loop μ-loop → tie.After-spread Inv-loop μ-loop
+spread-of-next-arc p = spread-of-add-states (p .before .before .before .before .before)
+
 -- the arc at which the cursor stands
 standing : (c : tie.In-loop Inv-loop μ-loop)
-    → let start = c .before .before .before .before .before .before .before .before .before .before in
+    → let start = start-of-loop (c .before) in
     (0 < c .before .loop .cursor) × (c .before .loop .cursor ≤ length (start .args .arcs .now))
 standing c = (omega arith, c .before .loop .inv .stands .0)
 
 first-arc-requires : tie.Need-first-arc-requires Inv-loop μ-loop
 first-arc-requires c κs =
-    let start = c .before .before .before .before .before .before .before in
+    let start = start-of-slice-known2 c in
     omega (arith, start .pre .1 .by-index .long, start .pre .1 .queue .at-below)
 
 loop-holds : tie.Need-loop-holds Inv-loop μ-loop
 loop-holds c =
-    let p = c .before .before .before .before .before .before .before .before .pre .1 in
+    let p = start-of-first-arc c .pre .1 in
     let X = p .by-index .indexed in
     record {
       next-as-long = refl;
@@ -63,8 +85,8 @@ cast-arc c = omega (arith, c .shared-slice-known6 .given (c .before .before .loo
 
 add-states-requires : tie.Need-add-states-requires Inv-loop μ-loop
 add-states-requires c κs =
-    let at-loop = c .before .before .before .before .before .before .before .before in
-    let start = at-loop .before .before .before .before .before .before .before .before .before in
+    let at-loop = loop-of-spread (c .before .before .before) in
+    let start = start-of-loop at-loop in
     let q = start .pre .1 .queue in
     let l = at-loop .loop .inv in
     record {
@@ -77,15 +99,15 @@ add-states-requires c κs =
 
 next-arc-requires : tie.Need-next-arc-requires Inv-loop μ-loop
 next-arc-requires c κs =
-    let in-loop = c .before .before .before .before .before .before .before .before .before .before .before .before in
-    let start = in-loop .before .before .before .before .before .before .before .before .before .before in
+    let in-loop = spread-of-add-states (c .before .before .before .before) .before .before .before .before in
+    let start = start-of-loop (in-loop .before) in
     let X = start .pre .1 .by-index in
     (omega (arith, standing in-loop, X .long), omega (arith, standing in-loop, X .few))
 
 loop-less : tie.Need-loop-less Inv-loop μ-loop
 loop-less c =
-    let in-loop = c .before .before .before .before .before .before .before .before .before .before .before .before .before in
-    let start = in-loop .before .before .before .before .before .before .before .before .before .before in
+    let in-loop = spread-of-next-arc c .before .before .before .before in
+    let start = start-of-loop (in-loop .before) in
     let z = standing in-loop in
     omega (arith, c .next-arc .ensures, next-falls (start .pre .1 .by-index .indexed) (in-loop .before .loop .inv .stands) (z .0))
 
@@ -95,7 +117,7 @@ loop-again c =
     let after-add-states = c .before .before .before .before .before in
     let known8 = after-add-states .before .before .before in
     let in-loop = known8 .before .before .before .before .before in
-    let start = in-loop .before .before .before .before .before .before .before .before .before .before in
+    let start = start-of-loop (in-loop .before) in
     let s = start .args in
     let X = start .pre .1 .by-index .indexed in
     let l = in-loop .before .loop in

@@ -38,20 +38,49 @@ Inv-loop arcs index enter seen₀ pending₀ list₀ entry n listed₀ cursor₀
 abbrev μ-loop : tie.MeasureT-loop
 μ-loop arcs index enter seen₀ pending₀ list₀ entry n listed₀ cursor₀ seen pending list queued cursor = cursor
 
+-- The places that the needs come back to.
+abbrev start-of-loop : tie.At-loop Inv-loop μ-loop → tie.Start Inv-loop μ-loop
+start-of-loop p =
+    let at-first-arc = p .before in
+    let at-shared-slice-known2 = at-first-arc .before .before .before .before .before in
+    at-shared-slice-known2 .before .before
+
+abbrev start-of-slice-known3 : tie.After-slice-known3 Inv-loop μ-loop → tie.Start Inv-loop μ-loop
+start-of-slice-known3 p = let at-shared-slice-known = p .before .before .before .before .before in at-shared-slice-known .before
+
+abbrev start-of-first-arc : tie.After-first-arc Inv-loop μ-loop → tie.Start Inv-loop μ-loop
+start-of-first-arc p = start-of-slice-known3 (p .before)
+
+abbrev start-of-add-states-arg2 : tie.After-add-states-arg2 Inv-loop μ-loop → tie.Start Inv-loop μ-loop
+start-of-add-states-arg2 p =
+    let at-shared-slice-known4 = p .before .before .before .before .before in
+    let at-first-arc = at-shared-slice-known4 .before .before .before in
+    let at-shared-slice-known2 = at-first-arc .before .before .before .before .before in
+    at-shared-slice-known2 .before .before
+
+abbrev loop-of-add-states-arg2 : tie.After-add-states-arg2 Inv-loop μ-loop → tie.At-loop Inv-loop μ-loop
+loop-of-add-states-arg2 p = let at-shared-slice-known4 = p .before .before .before .before .before in at-shared-slice-known4 .before .before
+
+abbrev in-loop-of-add-states : tie.After-add-states Inv-loop μ-loop → tie.In-loop Inv-loop μ-loop
+in-loop-of-add-states p = let at-slice-known4 = p .before .before .before .before .before in at-slice-known4 .before .before
+
+abbrev in-loop-of-next-arc : tie.After-next-arc Inv-loop μ-loop → tie.In-loop Inv-loop μ-loop
+in-loop-of-next-arc p = in-loop-of-add-states (p .before .before .before .before .before)
+
 -- the arc at which the cursor stands
 standing : (c : tie.In-loop Inv-loop μ-loop)
-    → let start = c .before .before .before .before .before .before .before .before .before in
+    → let start = start-of-loop (c .before) in
     (0 < c .before .loop .cursor) × (c .before .loop .cursor ≤ length (start .args .arcs .now))
 standing c = (omega arith, c .before .loop .inv .stands .0)
 
 first-arc-requires : tie.Need-first-arc-requires Inv-loop μ-loop
 first-arc-requires c κs =
-    let start = c .before .before .before .before .before .before in
+    let start = start-of-slice-known3 c in
     omega (arith, start .pre .by-index .long, start .pre .queue .at-below)
 
 loop-holds : tie.Need-loop-holds Inv-loop μ-loop
 loop-holds c =
-    let p = c .before .before .before .before .before .before .before .pre in
+    let p = start-of-first-arc c .pre in
     let X = p .by-index .indexed in
     record {
       seen-as-long = refl;
@@ -70,18 +99,18 @@ cast-arc : tie.Need-cast-arc Inv-loop μ-loop
 cast-arc c = omega (arith, c .shared-slice-known4 .given (c .before .before .loop .cursor - 1) .fits)
 
 slice-read-old : tie.Need-slice-read-old Inv-loop μ-loop
-slice-read-old c = omega (arith, c .before .before .before .before .before .before .before .before .before .before .before .pre .seen-long)
+slice-read-old c = omega (arith, start-of-loop (c .before .before .before) .pre .seen-long)
 
 shared-slice-read-states : tie.Need-shared-slice-read-states Inv-loop μ-loop
-shared-slice-read-states c = omega (arith, c .before .before .before .before .before .before .before .before .before .before .before .before .pre .enter-long)
+shared-slice-read-states c = omega (arith, start-of-loop (c .before .before .before .before) .pre .enter-long)
 
 slice-write-seen : tie.Need-slice-write-seen Inv-loop μ-loop
-slice-write-seen c = omega (arith, c .before .before .before .before .before .before .before .before .before .before .before .before .before .pre .seen-long)
+slice-write-seen c = omega (arith, start-of-loop (c .before .before .before .before .before) .pre .seen-long)
 
 add-states-requires : tie.Need-add-states-requires Inv-loop μ-loop
 add-states-requires c κs =
-    let p = c .before .before .before .before .before .before .before .before .before .before .before .before .before .before .before .pre in
-    let l = c .before .before .before .before .before .before .before .loop in
+    let p = start-of-add-states-arg2 c .pre in
+    let l = loop-of-add-states-arg2 c .loop in
     let q = p .queue in
     record {
       records = q .records;
@@ -93,15 +122,15 @@ add-states-requires c κs =
 
 next-arc-requires : tie.Need-next-arc-requires Inv-loop μ-loop
 next-arc-requires c κs =
-    let in-loop = c .before .before .before .before .before .before .before .before .before .before .before in
-    let start = in-loop .before .before .before .before .before .before .before .before .before in
+    let in-loop = in-loop-of-add-states (c .before .before .before .before) in
+    let start = start-of-loop (in-loop .before) in
     let X = start .pre .by-index in
     (omega (arith, standing in-loop, X .long), omega (arith, standing in-loop, X .few))
 
 loop-less : tie.Need-loop-less Inv-loop μ-loop
 loop-less c =
-    let in-loop = c .before .before .before .before .before .before .before .before .before .before .before .before in
-    let start = in-loop .before .before .before .before .before .before .before .before .before in
+    let in-loop = in-loop-of-next-arc c in
+    let start = start-of-loop (in-loop .before) in
     let z = standing in-loop in
     omega (arith, c .next-arc .ensures, next-falls (start .pre .by-index .indexed) (in-loop .before .loop .inv .stands) (z .0))
 
@@ -111,7 +140,7 @@ loop-again c =
     let after-add-states = c .before .before .before .before .before in
     let known4 = after-add-states .before .before .before .before .before in
     let at-loop = known4 .before .before .before in
-    let start = at-loop .before .before .before .before .before .before .before .before in
+    let start = start-of-loop at-loop in
     let s = start .args in
     let p = start .pre in
     let X = p .by-index .indexed in

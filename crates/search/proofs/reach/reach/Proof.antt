@@ -31,9 +31,34 @@ Inv-loop arcs follow enter n from index seen₀ pending₀ list₀ count₀ seen
 abbrev μ-loop : tie.MeasureT-loop
 μ-loop arcs follow enter n from index seen₀ pending₀ list₀ count₀ seen pending list count = onesBelow (toDo seen pending) (n * 64)
 
+-- The places that the needs come back to.
+abbrev start-of-loop : tie.At-loop Inv-loop μ-loop → tie.Start Inv-loop μ-loop
+start-of-loop p =
+    let at-add-states = p .before .before .before in
+    let at-index-by-left = at-add-states .before .before .before .before in
+    at-index-by-left .before .before .before .before .before
+
+abbrev start-of-index-by-left : tie.After-index-by-left Inv-loop μ-loop → tie.Start Inv-loop μ-loop
+start-of-index-by-left p = p .before .before .before .before .before
+
+abbrev start-of-add-states : tie.After-add-states Inv-loop μ-loop → tie.Start Inv-loop μ-loop
+start-of-add-states p = start-of-index-by-left (p .before .before .before .before)
+
+abbrev loop-of-spread : tie.After-spread Inv-loop μ-loop → tie.At-loop Inv-loop μ-loop
+loop-of-spread p = p .before .before
+
+abbrev index-by-left-of-loop : tie.At-loop Inv-loop μ-loop → tie.After-index-by-left Inv-loop μ-loop
+index-by-left-of-loop p = let at-add-states = p .before .before .before in at-add-states .before .before .before .before
+
+abbrev loop-of-out-of : tie.After-out-of Inv-loop μ-loop → tie.At-loop Inv-loop μ-loop
+loop-of-out-of p = loop-of-spread (p .before .before .before .before .before)
+
+abbrev spread-of-out-of : tie.After-out-of Inv-loop μ-loop → tie.After-spread Inv-loop μ-loop
+spread-of-out-of p = p .before .before .before .before .before
+
 -- the record last queued
 inside : (c : tie.In-loop Inv-loop μ-loop)
-    → let start = c .before .before .before .before .before .before .before .before .before .before .before .before .before in
+    → let start = start-of-loop (c .before) in
     getD (c .before .loop .list) (c .before .loop .count - 1) 0 < start .args .n
 inside c = c .before .loop .inv .listed .small (c .before .loop .count - 1) (omega arith)
 
@@ -47,7 +72,7 @@ index-by-left-requires c κs =
 
 add-states-requires : tie.Need-add-states-requires Inv-loop μ-loop
 add-states-requires c κs =
-    let p = c .before .before .before .before .before .before .before .before .pre in
+    let p = start-of-index-by-left (c .before .before .before) .pre in
     record {
       records = p .records;
       at-below = omega (arith, p .from-below, p .records);
@@ -58,7 +83,7 @@ add-states-requires c κs =
 
 loop-holds : tie.Need-loop-holds Inv-loop μ-loop
 loop-holds c =
-    let start = c .before .before .before .before .before .before .before .before .before .before .before in
+    let start = start-of-add-states (c .before .before) in
     let s = start .args in
     let p = start .pre in
     let long : length (set {A = ℕ} (replicate 1024 0) (s .from) 1) ≡ 1024 = simp length-set (length-replicate {A = ℕ} 1024 0) in
@@ -102,12 +127,12 @@ slice-aggregate-out-of-3 c =
     sym (length-set {A = ℕ} (l .pending) (getD (l .list) (l .count - 1) 0) 0 ∙ l .inv .pending-long)
 
 slice-aggregate-out-of-4 : tie.Need-slice-aggregate-out-of-4 Inv-loop μ-loop
-slice-aggregate-out-of-4 c = sym (c .before .before .before .before .before .before .loop .inv .list-long)
+slice-aggregate-out-of-4 c = sym (loop-of-spread (c .before .before .before .before) .loop .inv .list-long)
 
 out-of-requires : tie.Need-out-of-requires Inv-loop μ-loop
 out-of-requires c κs =
-    let at-loop = c .before .before .before .before .before .before in
-    let after-index-by-left = at-loop .before .before .before .before .before .before .before in
+    let at-loop = loop-of-spread (c .before .before .before .before) in
+    let after-index-by-left = index-by-left-of-loop at-loop in
     let start = after-index-by-left .before .before .before .before .before in
     let in-loop = c .before .before .before .before .before in
     let p = start .pre in
@@ -131,10 +156,11 @@ out-of-requires c κs =
 
 loop-less : tie.Need-loop-less Inv-loop μ-loop
 loop-less c =
-    let at-loop = c .before .before .before .before .before .before .before .before .before .before in
-    let after-out-of = c .before .before .before in
-    let in-loop = c .before .before .before .before .before .before .before .before .before in
-    let start = at-loop .before .before .before .before .before .before .before .before .before .before .before .before in
+    let earlier = c .before .before .before in
+    let at-loop = loop-of-out-of earlier in
+    let after-out-of = earlier in
+    let in-loop = spread-of-out-of earlier .before in
+    let start = start-of-loop at-loop in
     let l = at-loop .loop in
     let a = fewer-pop (l .inv .listed) (omega arith) (within in-loop) (l .seen) (l .inv .expanding .waits) in
     let b = ones-most _ _ (start .args .n * 64) (after-out-of .out-of .ensures .1) in
@@ -142,9 +168,10 @@ loop-less c =
 
 loop-again : tie.Need-loop-again Inv-loop μ-loop
 loop-again c =
-    let at-loop = c .before .before .before .before .before .before .before .before .before .before in
-    let after-out-of = c .before .before .before in
-    let after-spread = c .before .before .before .before .before .before .before .before in
+    let earlier = c .before .before .before in
+    let at-loop = loop-of-out-of earlier in
+    let after-out-of = earlier in
+    let after-spread = spread-of-out-of earlier in
     let l = at-loop .loop in
     let P = after-out-of .out-of in
     record {

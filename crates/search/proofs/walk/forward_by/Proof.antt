@@ -29,9 +29,22 @@ Inv-loop arcs index follow enter work seen out₀ n steps at₀ states₀ t₀ o
 abbrev μ-loop : tie.MeasureT-loop
 μ-loop arcs index follow enter work seen out₀ n steps at₀ states₀ t₀ out at states t = steps - t
 
+-- The places that the needs come back to.
+abbrev start-of-slice-known : tie.After-slice-known Inv-loop μ-loop → tie.Start Inv-loop μ-loop
+start-of-slice-known p = let at-shared-slice-known2 = p .before .before .before .before .before in at-shared-slice-known2 .before .before
+
+abbrev start-of-spread : tie.After-spread Inv-loop μ-loop → tie.Start Inv-loop μ-loop
+start-of-spread p = start-of-slice-known (p .before .before .before)
+
+abbrev start-of-choose : tie.After-choose Inv-loop μ-loop → tie.Start Inv-loop μ-loop
+start-of-choose p = start-of-spread (p .before)
+
+abbrev start-of-loop-end : tie.After-loop Inv-loop μ-loop → tie.Start Inv-loop μ-loop
+start-of-loop-end p = start-of-slice-known (p .before .before)
+
 loop-holds : tie.Need-loop-holds Inv-loop μ-loop
 loop-holds c =
-    let start = c .before .before .before .before .before .before .before in
+    let start = start-of-slice-known c in
     let p = start .pre .1 in
     record {
       t-most = omega arith;
@@ -43,14 +56,14 @@ loop-holds c =
 
 choose-requires : tie.Need-choose-requires Inv-loop μ-loop
 choose-requires c κs =
-    let start = c .before .before .before .before .before .before .before .before .before .before in
+    let start = start-of-spread c in
     let p = start .pre in
     record { by-index = p .0; enter-long = p .1 .tables .enter-long; numbers = p .1 .numbers; at-below = c .before .before .loop .inv .at-below }
 
 loop-again : tie.Need-loop-again Inv-loop μ-loop
 loop-again c =
     let after-spread = c .before .before in
-    let start = c .before .before .before .before .before .before .before .before .before .before .before .before in
+    let start = start-of-choose (c .before) in
     let s = start .args in
     let l = c .before .before .before .before .loop in
     let e : s .route .steps - l .t ≡ suc (s .route .steps - l .t - 1) = omega arith in
@@ -69,7 +82,7 @@ same-length c = c .before .loop .inv .as-long
 
 returns : tie.Need-returns Inv-loop μ-loop
 returns c =
-    let start = c .before .before .before .before .before .before .before .before .before in
+    let start = start-of-loop-end c in
     let s = start .args in
     let l = c .before .loop in
     let e : s .route .steps ≡ l .t = omega arith in
