@@ -9,15 +9,15 @@
 --                   a number for each state of n records, and a word of the states seen for each record
 --   Between ends work
 --                   two of n records, and a number for each state of a record
---   CrossAsked, ChooseAsked, WalkAsked, CommitAsked, LevelsAsked, SearchAsked, ReachAsked
+--   CrossAsked, ChooseAsked, WalkAsked, CommitAsked, LevelsAsked, SearchAsked, ReachAsked, ChainAsked, EndsAsked
 --                   what the functions ask: to cross the arcs of an entry's record, to choose one of them, to walk a route, to commit a level, to make
---                   the levels, to search along arcs both ways, and forward alone
+--                   the levels, to search along arcs both ways, and forward alone; and to do so over links
 -- Assumes nothing: these are definitions.
 use mathlib.Core.Path.{_≡_}
 use mathlib.Core.List.{List}
 use Prim.Native.Nat.{ℕ, _+_, _*_, _<_, _≤_}
 use lib.ListN.{length}
-use Rattle.book.specs.Causes.{maxRecords}
+use Rattle.book.specs.Causes.{maxRecords, maxLinks}
 use Rattle.arcs.specs.Arcs.{maxArcs, arcFrom}
 use Rattle.arcs.specs.Index.{Indexed}
 use Rattle.search.specs.Frontiers.{Listed, Zero}
@@ -98,6 +98,18 @@ pub record SearchAsked (arcs follow predecessors enter : List ℕ) (ends : Ends)
 
 pub record ReachAsked (arcs follow enter : List ℕ) (n from : ℕ) : Type 0 where
   pub few : length arcs ≤ maxArcs
+  pub tables : Tables follow enter
+  pub records : n ≤ maxRecords
+  pub from-below : from < n
+
+pub record ChainAsked (links follow predecessors enter : List ℕ) (ends : Ends) (work : List ℕ) : Type 0 where
+  pub few-links : length links ≤ maxLinks
+  pub tables : Tables follow enter
+  pub predecessors-long : length predecessors ≡ 64
+  pub between : Between ends work
+
+pub record EndsAsked (links follow enter : List ℕ) (n from : ℕ) : Type 0 where
+  pub few-links : length links ≤ maxLinks
   pub tables : Tables follow enter
   pub records : n ≤ maxRecords
   pub from-below : from < n

@@ -8,9 +8,8 @@ use crate::states::spread;
 ghost use mathlib.Core.Path.{_≡_};
 ghost use mathlib.Core.List.{List};
 ghost use mathlib.Core.Bool.{true};
-ghost use Prim.Native.Nat.{ℕ, _<_, _≤_};
+ghost use Prim.Native.Nat.{ℕ};
 ghost use lib.ListN.{length};
-ghost use Rattle.book.specs.Causes.{maxRecords, maxLinks};
 ghost use Rattle.paths.specs.Expressions.{Expr};
 ghost use Rattle.paths.specs.Chains.{Graph};
 ghost use Rattle.paths.specs.ChainLaws.{Inside};
@@ -20,7 +19,7 @@ ghost use Rattle.arcs.specs.Arcs.{arcFrom, Spans};
 ghost use Rattle.search.specs.Levels.{Spread};
 ghost use Rattle.search.specs.Frontiers.{Listed};
 ghost use Rattle.search.specs.Reaching.{Expanding, Reached, Fewer, Ended};
-ghost use Rattle.search.specs.Room.{CrossAsked, ReachAsked};
+ghost use Rattle.search.specs.Room.{CrossAsked, ReachAsked, EndsAsked};
 
 // The states, not seen yet, to which an arc leads from the entry's record by one of its states, seen and pending now. How many records are queued now?
 fn out_of(
@@ -111,7 +110,7 @@ pub fn reached(
     n: usize,
     from: usize,
 ) -> [u64; book::MAX_RECORDS]
-    requires { ⌜ (length (now links) ≤ maxLinks) × (length (now follow) ≡ 64) × (length (now enter) ≡ 64) × (n ≤ maxRecords) × (from < n) ⌝ }
+    requires { ⌜ EndsAsked (now links) (now follow) (now enter) n from ⌝ }
     ensures { λ r. ⌜ ((g : Graph) (e : Expr) (ps : List ℕ) (f : ℕ) → g .n ≡ n → Inside g → Spans (now (links .entry)) (length (now (links .entry))) g
         → length ps ≡ 64 → Masked (now (follow .entry)) ps (now (enter .entry)) f (automaton e) → g .inUse from ≡ true → Ended g e from f r) ⌝ }
 {

@@ -43,7 +43,12 @@ first-chain-requires : tie.Need-first-chain-requires
 first-chain-requires c κs =
     let p = (let earlier = tables-of-of-first-chain-arg2 c .before in
     start-of-else2 earlier) .pre in
-    (p .few-links, p .few, search needs, search needs, search needs, p .from-in, p .to-in, p .lent)
+    record {
+      few-links = p .few-links;
+      tables = record { rows-long = search needs; enter-long = search needs };
+      predecessors-long = search needs;
+      between = record { records = p .few; from-below = p .from-in; to-below = p .to-in; work-long = p .lent };
+    }
 
 returns-3 : tie.Need-returns-3
 returns-3 c =

@@ -46,7 +46,7 @@ crossed-2 c =
     let a = c .arcs-of2 in
     let long : length (a .last .1 .1 .0) ≡ 8192 = a .kept .1 .1 .0 ∙ length-replicate {A = ℕ} 8192 0 in
     let part : a .result - 0 ≡ a .result = omega arith in
-    rw part (crossings-take (a .last .1 .1 .0) (a .result) (omega (arith, long, a .ensures .0, start .pre .0)) (a .ensures .1))
+    rw part (crossings-take (a .last .1 .1 .0) (a .result) (omega (arith, long, a .ensures .0, start .pre .few-links)) (a .ensures .1))
 
 along-requires : tie.Need-along-requires
 along-requires c κs =
@@ -54,9 +54,9 @@ along-requires c κs =
     let p = start-of-arcs-of after-arcs-of .pre in
     record {
       few = search needs;
-      tables = record { rows-long = p .2; enter-long = p .4 };
-      predecessors-long = p .3;
-      between = record { records = p .1; from-below = p .5; to-below = p .6; work-long = p .7 };
+      tables = p .tables;
+      predecessors-long = p .predecessors-long;
+      between = p .between;
     }
 
 along-requires-2 : tie.Need-along-requires-2
@@ -65,9 +65,9 @@ along-requires-2 c κs =
     let p = start-of-arcs-of2 after-arcs-of2 .pre in
     record {
       few = search needs;
-      tables = record { rows-long = p .2; enter-long = p .4 };
-      predecessors-long = p .3;
-      between = record { records = p .1; from-below = p .5; to-below = p .6; work-long = p .7 };
+      tables = p .tables;
+      predecessors-long = p .predecessors-long;
+      between = p .between;
     }
 
 returns : tie.Need-returns
@@ -77,7 +77,7 @@ returns c =
     let start = start-of-arcs-of after-arcs-of in
     let p = start .pre in
     let E = after-along .along .ensures in
-    (E .0, λ g e size I S T ux uy. E .1 g e (setting size I (p .1) S (crossed after-arcs-of) T (p .3)) ux uy)
+    (E .0, λ g e size I S T ux uy. E .1 g e (setting size I (p .between .records) S (crossed after-arcs-of) T (p .predecessors-long)) ux uy)
 
 returns-2 : tie.Need-returns-2
 returns-2 c =
@@ -86,7 +86,7 @@ returns-2 c =
     let start = start-of-arcs-of2 after-arcs-of2 in
     let p = start .pre in
     let E = after-along2 .along2 .ensures in
-    (E .0, λ g e size I S T ux uy. E .1 g e (setting size I (p .1) S (crossed-2 after-arcs-of2) T (p .3)) ux uy)
+    (E .0, λ g e size I S T ux uy. E .1 g e (setting size I (p .between .records) S (crossed-2 after-arcs-of2) T (p .predecessors-long)) ux uy)
 
 pub first-chain-spec : {M : Type 1} → statement M
 first-chain-spec =

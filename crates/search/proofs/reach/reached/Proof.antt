@@ -31,10 +31,10 @@ reach-requires c κs =
     let after-arcs-of = c .before .before .before in
     let p = after-arcs-of .before .before .before .before .before .pre in
     record {
-      few = omega (arith, part-long after-arcs-of, after-arcs-of .arcs-of .ensures .0, p .0);
-      tables = record { rows-long = p .1; enter-long = p .2 };
-      records = p .3;
-      from-below = p .4;
+      few = omega (arith, part-long after-arcs-of, after-arcs-of .arcs-of .ensures .0, p .few-links);
+      tables = p .tables;
+      records = p .records;
+      from-below = p .from-below;
     }
 
 -- those that count, alone, are the crossings
@@ -50,7 +50,7 @@ crossed c =
 returns : tie.Need-returns
 returns c =
     let p = start-of-reach c .pre in
-    λ g e ps f size I S l T u. ended (setting size I (p .3) S (crossed (c .before .before .before .before)) T l) I (p .4) u (c .reach .ensures)
+    λ g e ps f size I S l T u. ended (setting size I (p .records) S (crossed (c .before .before .before .before)) T l) I (p .from-below) u (c .reach .ensures)
 
 pub reached-spec : {M : Type 1} → statement M
 reached-spec =
