@@ -6,7 +6,7 @@ use crate::LETTERS;
 use crate::RECORD_UNIT;
 use crate::Route;
 use crate::states::spread;
-ghost use Prim.Native.Nat.{_*_, _<_, _≤_};
+ghost use Prim.Native.Nat.{_*_, _≤_};
 ghost use lib.ListN.{length};
 ghost use Rattle.book.specs.Causes.{maxRecords};
 ghost use Rattle.arcs.specs.Arcs.{maxArcs, arcFrom};
