@@ -70,7 +70,13 @@ tell-requires c κs =
     let else3 = c .before .before .before .before .before in
     let else1 = else3 .before .before .before .before .before .before in
     let start = else1 .before .before .before in
-    (marks-long start, else3 .before .before .ranks .ensures, omega arith, in-range else1 .size, else3 .if3 .left)
+    record {
+      marks = marks-long start;
+      ranked = else3 .before .before .ranks .ensures;
+      ranks = ranks-long (else3 .before .before);
+      size = in-range else1 .size;
+      room = else3 .if3 .left;
+    }
 
 rename-requires : tie.Need-rename-requires
 rename-requires c κs =

@@ -22,7 +22,7 @@ whole : (c : tie.Else1)
     let a = start .args in Whole (a .counters) (a .links .now) (a .marks .now) (a .ring .now) × (length (a .totals .now) ≡ labels)
 whole c =
     let p = c .before .before .before .before .before .before .pre in
-    (record { ranged = c .before .ranged .ensures .sure (not-false _ (c .if1 .left)); links = p .0; marks = p .1; ring = p .2 }, p .3)
+    (record { ranged = c .before .ranged .ensures .sure (not-false _ (c .if1 .left)); links = p .links; marks = p .marks; ring = p .ring }, p .totals)
 
 relink-requires : tie.Need-relink-requires
 relink-requires c κs = whole (c .before .before .before .before .before .before .before)

@@ -22,16 +22,22 @@ use Rattle.register.specs.HistoryLaws.{number-answer, represents-sound}
 use Rattle.register.specs.LaidLaws.{entry-answers, entry-follows, entry-given}
 use Rattle.register.proofs.ReplayLaws.{replay-size, replay-short, replay-few, replay-free, replay-refused, after-turn, told-turn, closings-turn}
 use Rattle.register.proofs.ReplayLaws.{closings-part, numbers-turn}
+use Rattle.register.specs.declared.Register.{Register}
 use Rattle.register.proofs.history.replay.Statement.{statement}
 use Rattle.register.proofs.history.replay.Tie as tie
 
+-- what holds at the head of the loop, after i words
+record Replayed (n : ℕ) (words told₀ numbers₀ told numbers : List ℕ) (register : Register) (at i : ℕ) : Type 0 where
+  inside : i ≤ length words
+  told-as-long : length told ≡ length told₀
+  numbers-as-long : length numbers ≡ length numbers₀
+  place : at ≡ maxRecords * closings (callsOf (take i words))
+  represents : Represents register (after (fresh n) (callsOf (take i words)))
+  answered : told ≡ wordAnswers (fresh n) (take i words) ++ drop i told₀
+  given : numbers ≡ laid (givens (fresh n) (callsOf (take i words))) numbers₀
+
 abbrev Inv-loop : tie.InvT-loop
-Inv-loop n words told₀ numbers₀ register₀ at₀ i₀ told numbers register at i =
-    (i ≤ length words) × (length told ≡ length told₀) × (length numbers ≡ length numbers₀)
-    × (at ≡ maxRecords * closings (callsOf (take i words)))
-    × Represents register (after (fresh n) (callsOf (take i words)))
-    × (told ≡ wordAnswers (fresh n) (take i words) ++ drop i told₀)
-    × (numbers ≡ laid (givens (fresh n) (callsOf (take i words))) numbers₀)
+Inv-loop n words told₀ numbers₀ register₀ at₀ i₀ told numbers register at i = Replayed n words told₀ numbers₀ told numbers register at i
 
 abbrev μ-loop : tie.MeasureT-loop
 μ-loop n words told₀ numbers₀ register₀ at₀ i₀ told numbers register at i = length words - i
@@ -78,15 +84,16 @@ returns-3 c =
 
 loop-holds : tie.Need-loop-holds Inv-loop μ-loop
 unfolding after wordAnswers callsOf tally givens laid
-loop-holds c = (
-  omega arith,
-  refl,
-  refl,
-  refl,
-  c .before .before .before .before .before .before .fresh .ensures .made (made (c .before .before .before)),
-  refl,
-  refl,
-)
+loop-holds c =
+    record {
+      inside = omega arith;
+      told-as-long = refl;
+      numbers-as-long = refl;
+      place = refl;
+      represents = c .before .before .before .before .before .before .fresh .ensures .made (made (c .before .before .before));
+      answered = refl;
+      given = refl;
+    }
 
 words-fit : (c : tie.Start Inv-loop μ-loop) → length (c .args .words .now) < 18446744073709551615
 words-fit c = omega arith
@@ -105,7 +112,7 @@ place : (c : tie.In-loop Inv-loop μ-loop)
 place c =
     let ws = c .before .before .before .before .before .before .before .before .before .before .before .before .args .words .now in
     let l = c .before .loop in
-    omega (arith, l .inv .2, l .inv .3, room (c .before .before), closings-turn ws (l .i) (c .loop-test .taken), closings-part ws (l .i + 1))
+    omega (arith, l .inv .numbers-as-long, l .inv .place, room (c .before .before), closings-turn ws (l .i) (c .loop-test .taken), closings-part ws (l .i + 1))
 
 mul-step : tie.Need-mul-step Inv-loop μ-loop
 mul-step c = omega (arith, place (c .before))
@@ -121,19 +128,19 @@ mul-told c =
     let in-loop = c .before .before .before .before .before .before in
     let else2 = in-loop .before .before .before .before in
     let start = else2 .before .before .before .before .before .before .before .before in
-    omega (arith, told-fit start, in-loop .loop-test .taken, in-loop .before .loop .inv .1, else2 .if2 .left)
+    omega (arith, told-fit start, in-loop .loop-test .taken, in-loop .before .loop .inv .told-as-long, else2 .if2 .left)
 
 slice-write-told : tie.Need-slice-write-told Inv-loop μ-loop
 slice-write-told c =
     let in-loop = c .before .before .before .before .before .before in
     let else2 = in-loop .before .before .before .before in
-    omega (arith, in-loop .loop-test .taken, in-loop .before .loop .inv .1, else2 .if2 .left)
+    omega (arith, in-loop .loop-test .taken, in-loop .before .loop .inv .told-as-long, else2 .if2 .left)
 
 add-at : tie.Need-add-at Inv-loop μ-loop
 add-at c =
     let in-loop = c .before .before .before .before .before .before .before .before in
     let start = in-loop .before .before .before .before .before .before .before .before .before .before .before .before in
-    omega (arith, place in-loop, c .list-words .ensures, numbers-fit start, in-loop .before .loop .inv .2)
+    omega (arith, place in-loop, c .list-words .ensures, numbers-fit start, in-loop .before .loop .inv .numbers-as-long)
 
 add-i : tie.Need-add-i Inv-loop μ-loop
 add-i c =
@@ -166,24 +173,25 @@ loop-again c =
     let whole : l .before ≡ drop (k .at) (k .numbers) = rest-whole (k .numbers) (k .at) in
     let enough : maxRecords * closings (entryCalls e) ≤ length (l .before) = omega (arith, ap length whole, length-drop (k .at) (k .numbers), place in-loop) in
     let same : length (o .last .1 .1 .0) ≡ length (l .before) = o .kept .1 .1 .0 in
-    let given = entry-given (k .register) l (o .result) b (k .inv .4) e (o .ensures) enough ∙ ap (laid (givens b (entryCalls e))) whole in
+    let given = entry-given (k .register) l (o .result) b (k .inv .represents) e (o .ensures) enough ∙ ap (laid (givens b (entryCalls e))) whole in
     let said : a .result ≡ entryNumber b e =
-    a .ensures ∙ ap answerNumber (entry-answers (k .register) l (o .result) b (k .inv .4) e (o .ensures) enough) ∙ number-answer (entryNumber b e) in (
-      omega arith,
-      simp length-set (k .inv .1),
-      same-len-mid (k .at) (length (k .numbers) - k .at) (k .numbers) (o .last .1 .1 .0) same ∙ k .inv .2,
-      omega (arith, k .inv .3, c .list-words .ensures, closings-turn ws (k .i) h),
-      rw (after-turn (fresh (s .n)) ws (k .i) h) (entry-follows (k .register) l (o .result) b (k .inv .4) e (o .ensures) enough),
-      ap (λ (x : List ℕ). set x (k .i) (a .result)) (k .inv .5) ∙ told-turn (fresh (s .n)) ws (k .i) h (s .told .now) (a .result) t said,
-      numbers-turn (fresh (s .n)) ws (k .i) h (sound (else2 .before)) (s .numbers .now) (k .numbers)
-          (o .last .1 .1 .0) (k .at) (k .inv .6) (k .inv .3) (omega (arith, place in-loop, k .inv .2)) (k .inv .2) given,
-    )
+    a .ensures ∙ ap answerNumber (entry-answers (k .register) l (o .result) b (k .inv .represents) e (o .ensures) enough) ∙ number-answer (entryNumber b e) in
+    record {
+      inside = omega arith;
+      told-as-long = simp length-set (k .inv .told-as-long);
+      numbers-as-long = same-len-mid (k .at) (length (k .numbers) - k .at) (k .numbers) (o .last .1 .1 .0) same ∙ k .inv .numbers-as-long;
+      place = omega (arith, k .inv .place, c .list-words .ensures, closings-turn ws (k .i) h);
+      represents = rw (after-turn (fresh (s .n)) ws (k .i) h) (entry-follows (k .register) l (o .result) b (k .inv .represents) e (o .ensures) enough);
+      answered = ap (λ (x : List ℕ). set x (k .i) (a .result)) (k .inv .answered) ∙ told-turn (fresh (s .n)) ws (k .i) h (s .told .now) (a .result) t said;
+      given = numbers-turn (fresh (s .n)) ws (k .i) h (sound (else2 .before)) (s .numbers .now) (k .numbers)
+          (o .last .1 .1 .0) (k .at) (k .inv .given) (k .inv .place) (omega (arith, place in-loop, k .inv .numbers-as-long)) (k .inv .numbers-as-long) given;
+    }
 
 same-length : tie.Need-same-length Inv-loop μ-loop
-same-length c = c .before .loop .inv .1
+same-length c = c .before .loop .inv .told-as-long
 
 same-length-2 : tie.Need-same-length-2 Inv-loop μ-loop
-same-length-2 c = c .before .loop .inv .2
+same-length-2 c = c .before .loop .inv .numbers-as-long
 
 returns-4 : tie.Need-returns-4 Inv-loop μ-loop
 returns-4 c =
@@ -197,9 +205,9 @@ returns-4 c =
     record {
       answer = ap answerOf (sym e);
       refused = λ z. absurd (z e);
-      told = λ _. rw (← i) (rw a at (k .inv .5));
-      given = λ _. rw a at (k .inv .6);
-      book = λ _. rw a at (k .inv .4);
+      told = λ _. rw (← i) (rw a at (k .inv .answered));
+      given = λ _. rw a at (k .inv .given);
+      book = λ _. rw a at (k .inv .represents);
     }
 
 pub replay-spec : {M : Type 1} → statement M
