@@ -26,6 +26,25 @@ Inv-loop self calls counters₀ links₀ marks₀ ring₀ totals₀ i₀ counter
 abbrev μ-loop : tie.MeasureT-loop
 μ-loop self calls counters₀ links₀ marks₀ ring₀ totals₀ i₀ counters links marks ring totals i = length calls - i
 
+-- The places that the needs come back to.
+abbrev loop-of-shared-slice-known2 : tie.After-shared-slice-known2 Inv-loop μ-loop → tie.At-loop Inv-loop μ-loop
+loop-of-shared-slice-known2 p = let at-in-loop = p .before .before .before .before .before in at-in-loop .before
+
+abbrev edit-word-of-number-of : tie.After-number-of Inv-loop μ-loop → tie.After-edit-word Inv-loop μ-loop
+edit-word-of-number-of p = p .before .before .before .before .before
+
+abbrev in-loop-of-edit-word : tie.After-edit-word Inv-loop μ-loop → tie.In-loop Inv-loop μ-loop
+in-loop-of-edit-word p = let at-links2 = p .before .before .before .before .before in at-links2 .before
+
+abbrev start-of-loop : tie.At-loop Inv-loop μ-loop → tie.Start Inv-loop μ-loop
+start-of-loop p = let at-shared-slice-known = p .before .before .before .before .before in at-shared-slice-known .before
+
+abbrev in-loop-of-number-of : tie.After-number-of Inv-loop μ-loop → tie.In-loop Inv-loop μ-loop
+in-loop-of-number-of p = in-loop-of-edit-word (p .before .before .before .before .before)
+
+abbrev start-of-loop-end : tie.After-loop Inv-loop μ-loop → tie.Start Inv-loop μ-loop
+start-of-loop-end p = start-of-loop (p .before)
+
 as-long : (c : tie.Start Inv-loop μ-loop) → let r = c .args .self in AsLong (r .links) (r .marks) (r .ring) (r .totals)
 as-long c = record { links = search needs; marks = search needs; ring = search needs; totals = search needs }
 
@@ -47,28 +66,28 @@ slice-aggregate-edit-word-4 : tie.Need-slice-aggregate-edit-word-4 Inv-loop μ-l
 slice-aggregate-edit-word-4 c = sym (c .before .before .before .before .before .loop .inv .as-long .totals)
 
 edit-word-requires : tie.Need-edit-word-requires Inv-loop μ-loop
-edit-word-requires c κs = c .before .before .before .before .before .before .loop .inv .as-long
+edit-word-requires c κs = loop-of-shared-slice-known2 c .loop .inv .as-long
 
 returns : tie.Need-returns Inv-loop μ-loop
 returns c =
-    let after-edit-word = c .before .before .before .before .before .before in
-    let in-loop = after-edit-word .before .before .before .before .before .before in
-    let start = in-loop .before .before .before .before .before .before .before in
+    let after-edit-word = edit-word-of-number-of (c .before) in
+    let in-loop = in-loop-of-edit-word after-edit-word in
+    let start = start-of-loop (in-loop .before) in
     draft-refused (start .args .calls .now) (in-loop .before .loop .i)
     (c .before .number-of .result) (in-loop .before .loop .inv .reached) (in-loop .loop-test .taken)
     (after-edit-word .edit-word .ensures) (c .before .number-of .ensures) (c .if1 .taken)
 
 add-i : tie.Need-add-i Inv-loop μ-loop
-add-i c = omega (arith, c .before .before .before .before .before .before .before .before .before .before .before .before .before .loop-test .taken)
+add-i c = omega (arith, in-loop-of-number-of (c .before .before) .loop-test .taken)
 
 loop-less : tie.Need-loop-less Inv-loop μ-loop
-loop-less c = omega (arith, c .before .before .before .before .before .before .before .before .before .before .before .before .before .loop-test .taken)
+loop-less c = omega (arith, in-loop-of-number-of (c .before .before) .loop-test .taken)
 
 loop-again : tie.Need-loop-again Inv-loop μ-loop
 loop-again c =
-    let after-edit-word = c .before .before .before .before .before .before .before in
-    let in-loop = after-edit-word .before .before .before .before .before .before in
-    let start = in-loop .before .before .before .before .before .before .before in
+    let after-edit-word = edit-word-of-number-of (c .before .before) in
+    let in-loop = in-loop-of-edit-word after-edit-word in
+    let start = start-of-loop (in-loop .before) in
     let done = after-edit-word .edit-word in
     let long = in-loop .before .loop .inv .as-long in
     record {
@@ -86,7 +105,7 @@ loop-again c =
 
 returns-2 : tie.Need-returns-2 Inv-loop μ-loop
 returns-2 c =
-    let start = c .before .before .before .before .before .before .before in
+    let start = start-of-loop-end c in
     let ws = start .args .calls .now in
     let k = c .before .loop in
     let a : take (k .i) ws ≡ ws = take-all (k .i) ws (omega arith) in

@@ -10,6 +10,19 @@ use borrow.Author.Needs.{needs}
 use Rattle.register.proofs.Register.load.Statement.{statement}
 use Rattle.register.proofs.Register.load.Tie as tie
 
+-- The places that the needs come back to.
+abbrev copy-u32-of-totals : tie.After-totals → tie.After-copy-u32
+copy-u32-of-totals p = p .before .before .before .before
+
+abbrev start-of-copy-out : tie.After-copy-out → tie.Start
+start-of-copy-out p =
+    let at-copy-u32 = p .before .before .before .before .before in
+    let at-is-register = at-copy-u32 .before .before .before .before in
+    at-is-register .before .before
+
+abbrev copy-u32-of-copy-out : tie.After-copy-out → tie.After-copy-u32
+copy-u32-of-copy-out p = p .before .before .before .before .before
+
 made : (c : tie.Else1) → Formed (c .before .before .before .args .words .now)
 made c = keeps-formed _ (c .before .is-register .ensures .sure (not-false _ (c .if1 .left)))
 
@@ -25,13 +38,16 @@ copy-u32-requires : tie.Need-copy-u32-requires
 copy-u32-requires c κs = part-fits (c .before .before .before .before .before .args .words .now) 4 4096
 
 copy-out-requires : tie.Need-copy-out-requires
-copy-out-requires c κs = (made (c .before .before .before .before .before .before .before), zeros-beside)
+copy-out-requires c κs = (made (copy-u32-of-totals c .before .before .before), zeros-beside)
 
 returns-2 : tie.Need-returns-2
 returns-2 c =
-    let done = c .before .before .before .copy-out in
+    let after-copy-out = c .before .before .before in
+    let done = after-copy-out .copy-out in
     load-made (done .result)
-    (part-read (c .before .before .before .before .before .before .before .before .before .before .before .before .before .before .args .words .now) 4 4096 (omega (arith, made (c .before .before .before .before .before .before .before .before .before .before .before) .long)) (length-replicate {A = ℕ} 4096 0) (c .before .before .before .before .before .before .before .before .copy-u32 .ensures))
+    (part-read (start-of-copy-out after-copy-out .args .words .now) 4 4096
+    (omega (arith, made (copy-u32-of-copy-out after-copy-out .before .before .before) .long))
+    (length-replicate {A = ℕ} 4096 0) (copy-u32-of-copy-out after-copy-out .copy-u32 .ensures))
     (done .ensures)
 
 pub load-spec : {M : Type 1} → statement M

@@ -13,6 +13,10 @@ use Rattle.links.specs.TotalLaws.{lowered-counted}
 use Rattle.register.proofs.edits.cut_out.Statement.{statement}
 use Rattle.register.proofs.edits.cut_out.Tie as tie
 
+-- The places that the needs come back to.
+abbrev start-of-lower-total : tie.After-lower-total → tie.Start
+start-of-lower-total p = let at-cut = p .before .before .before .before in at-cut .before .before .before .before
+
 below-count : (c : tie.Start) → c .args .at < c .args .counters .count
 below-count c = stands-below (c .args .links .now) (c .args .counters .count) (c .args .at) (c .args .x) (c .pre .1)
 
@@ -22,7 +26,7 @@ cut-requires c κs =
     (below-count start, start .pre .0 .few, start .pre .0 .links)
 
 sub-changed : tie.Need-sub-changed
-sub-changed c = omega (arith, below-count (c .before .before .before .before .before .before .before .before .before .before .before))
+sub-changed c = omega (arith, below-count (start-of-lower-total (c .before .before .before)))
 
 returns : tie.Need-returns
 returns c =

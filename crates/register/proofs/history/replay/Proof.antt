@@ -42,42 +42,70 @@ Inv-loop n words told₀ numbers₀ register₀ at₀ i₀ told numbers register
 abbrev μ-loop : tie.MeasureT-loop
 μ-loop n words told₀ numbers₀ register₀ at₀ i₀ told numbers register at i = length words - i
 
+-- The places that the needs come back to.
+abbrev start-of-number-of : tie.After-number-of Inv-loop μ-loop → tie.Start Inv-loop μ-loop
+start-of-number-of p = let at-fresh = p .before .before in at-fresh .before .before .before .before
+
+abbrev start-of-empty : tie.After-empty Inv-loop μ-loop → tie.Start Inv-loop μ-loop
+start-of-empty p = start-of-number-of (p .before .before .before)
+
+abbrev start-of-lists-fit : tie.After-lists-fit Inv-loop μ-loop → tie.Start Inv-loop μ-loop
+start-of-lists-fit p = start-of-number-of (p .before .before .before)
+
+abbrev start-of-empty2 : tie.After-empty2 Inv-loop μ-loop → tie.Start Inv-loop μ-loop
+start-of-empty2 p = start-of-lists-fit (p .before .before)
+
+abbrev fresh-of-lists-fit : tie.After-lists-fit Inv-loop μ-loop → tie.After-fresh Inv-loop μ-loop
+fresh-of-lists-fit p = p .before .before .before .before .before
+
+abbrev start-of-loop : tie.At-loop Inv-loop μ-loop → tie.Start Inv-loop μ-loop
+start-of-loop p = start-of-lists-fit (p .before .before)
+
+abbrev step-of-number-of2 : tie.After-number-of2 Inv-loop μ-loop → tie.After-step Inv-loop μ-loop
+step-of-number-of2 p = p .before .before .before
+
+abbrev step-of-list-words : tie.After-list-words Inv-loop μ-loop → tie.After-step Inv-loop μ-loop
+step-of-list-words p = p .before .before .before .before .before
+
+abbrev start-of-loop-end : tie.After-loop Inv-loop μ-loop → tie.Start Inv-loop μ-loop
+start-of-loop-end p = start-of-loop (p .before)
+
 -- the number that opening told
-opened : (c : tie.After-number-of Inv-loop μ-loop) → c .number-of .result ≡ freshAnswer (c .before .before .before .before .before .before .args .n)
+opened : (c : tie.After-number-of Inv-loop μ-loop) → c .number-of .result ≡ freshAnswer (start-of-number-of c .args .n)
 opened c =
-    let start = c .before .before .before .before .before .before in
+    let start = start-of-number-of c in
     c .number-of .ensures ∙ ap answerNumber (c .before .before .fresh .ensures .answers) ∙ number-answer (freshAnswer (start .args .n))
 
 returns : tie.Need-returns Inv-loop μ-loop
 returns c =
-    let s = c .before .before .before .before .before .before .before .args in
+    let s = start-of-number-of (c .before) .args in
     let z : (freshAnswer (s .n) ≡ 0 → ⊥) = λ z. c .if1 .taken (opened (c .before) ∙ z) in
     let e = replay-size (s .n) (s .words .now) (s .told .now) (s .numbers .now) z in
     replay-refused (s .n) (s .words .now) (s .told .now) (s .numbers .now) 0 e (c .before .before .before .fresh .ensures .empty z)
 
 -- the fresh register was made
-made : (c : tie.Else1 Inv-loop μ-loop) → freshAnswer (c .before .before .before .before .before .before .before .args .n) ≡ 0
+made : (c : tie.Else1 Inv-loop μ-loop) → freshAnswer (start-of-number-of (c .before) .args .n) ≡ 0
 made c = sym (opened (c .before)) ∙ c .if1 .left
 
 returns-2 : tie.Need-returns-2 Inv-loop μ-loop
 returns-2 c =
-    let s = c .before .before .before .before .before .before .before .before .before .args in
+    let s = start-of-empty c .args in
     let e = replay-short (s .n) (s .words .now) (s .told .now) (s .numbers .now) (made (c .before .before)) (c .before .if2 .taken) in
     replay-refused (s .n) (s .words .now) (s .told .now) (s .numbers .now) 11 e (c .empty .ensures)
 
 few : (c : tie.Then3 Inv-loop μ-loop)
-    → let start = c .before .before .before .before .before .before .before .before .before .before in
+    → let start = start-of-lists-fit (c .before) in
     length (start .args .numbers .now) < maxRecords * closings (callsOf (start .args .words .now))
 few c = leb-false _ _ (sym (c .before .lists-fit .ensures) ∙ not-true _ (c .if3 .taken))
 
 room : (c : tie.Else3 Inv-loop μ-loop)
-    → let start = c .before .before .before .before .before .before .before .before .before .before in
+    → let start = start-of-lists-fit (c .before) in
     maxRecords * closings (callsOf (start .args .words .now)) ≤ length (start .args .numbers .now)
 room c = leb-true _ _ (sym (c .before .lists-fit .ensures) ∙ not-false _ (c .if3 .left))
 
 returns-3 : tie.Need-returns-3 Inv-loop μ-loop
 returns-3 c =
-    let s = c .before .before .before .before .before .before .before .before .before .before .before .args in
+    let s = start-of-empty2 c .args in
     let e = replay-few (s .n) (s .words .now) (s .told .now) (s .numbers .now)
     (made (c .before .before .before .before)) (c .before .before .before .if2 .left) (few (c .before)) in
     replay-refused (s .n) (s .words .now) (s .told .now) (s .numbers .now) 11 e (c .empty2 .ensures)
@@ -90,7 +118,7 @@ loop-holds c =
       told-as-long = refl;
       numbers-as-long = refl;
       place = refl;
-      represents = c .before .before .before .before .before .before .fresh .ensures .made (made (c .before .before .before));
+      represents = fresh-of-lists-fit (c .before) .fresh .ensures .made (made (c .before .before .before));
       answered = refl;
       given = refl;
     }
@@ -106,11 +134,11 @@ numbers-fit c = omega arith
 
 -- the list of a word lies within the numbers, and so does all that is before it
 place : (c : tie.In-loop Inv-loop μ-loop)
-    → let start = c .before .before .before .before .before .before .before .before .before .before .before .before in
+    → let start = start-of-loop (c .before) in
     c .before .loop .at + maxRecords * closings (entryCalls (wordCall (getD (start .args .words .now) (c .before .loop .i) 0)))
     ≤ length (c .before .loop .numbers)
 place c =
-    let ws = c .before .before .before .before .before .before .before .before .before .before .before .before .args .words .now in
+    let ws = start-of-loop (c .before) .args .words .now in
     let l = c .before .loop in
     omega (arith, l .inv .numbers-as-long, l .inv .place, room (c .before .before), closings-turn ws (l .i) (c .loop-test .taken), closings-part ws (l .i + 1))
 
@@ -125,33 +153,33 @@ part-step-start c = omega (arith, place (c .before))
 
 mul-told : tie.Need-mul-told Inv-loop μ-loop
 mul-told c =
-    let in-loop = c .before .before .before .before .before .before in
+    let in-loop = step-of-number-of2 c .before .before .before in
     let else2 = in-loop .before .before .before .before in
-    let start = else2 .before .before .before .before .before .before .before .before in
+    let start = start-of-number-of (else2 .before .before) in
     omega (arith, told-fit start, in-loop .loop-test .taken, in-loop .before .loop .inv .told-as-long, else2 .if2 .left)
 
 slice-write-told : tie.Need-slice-write-told Inv-loop μ-loop
 slice-write-told c =
-    let in-loop = c .before .before .before .before .before .before in
+    let in-loop = step-of-number-of2 c .before .before .before in
     let else2 = in-loop .before .before .before .before in
     omega (arith, in-loop .loop-test .taken, in-loop .before .loop .inv .told-as-long, else2 .if2 .left)
 
 add-at : tie.Need-add-at Inv-loop μ-loop
 add-at c =
-    let in-loop = c .before .before .before .before .before .before .before .before in
-    let start = in-loop .before .before .before .before .before .before .before .before .before .before .before .before in
+    let in-loop = step-of-list-words c .before .before .before in
+    let start = start-of-loop (in-loop .before) in
     omega (arith, place in-loop, c .list-words .ensures, numbers-fit start, in-loop .before .loop .inv .numbers-as-long)
 
 add-i : tie.Need-add-i Inv-loop μ-loop
 add-i c =
-    let in-loop = c .before .before .before .before .before .before .before .before in
-    let start = in-loop .before .before .before .before .before .before .before .before .before .before .before .before in
+    let in-loop = step-of-list-words c .before .before .before in
+    let start = start-of-loop (in-loop .before) in
     omega (arith, words-fit start, in-loop .loop-test .taken)
 
 loop-less : tie.Need-loop-less Inv-loop μ-loop
-loop-less c = omega (arith, c .before .before .before .before .before .before .before .before .loop-test .taken)
+loop-less c = omega (arith, step-of-list-words c .before .before .before .loop-test .taken)
 
-sound : (c : tie.Else1 Inv-loop μ-loop) → Sound (fresh (c .before .before .before .before .before .before .before .args .n))
+sound : (c : tie.Else1 Inv-loop μ-loop) → Sound (fresh (start-of-number-of (c .before) .args .n))
 sound c = represents-sound (c .before .before .before .fresh .ensures .made (made c))
 
 loop-again : tie.Need-loop-again Inv-loop μ-loop
@@ -159,7 +187,7 @@ loop-again c =
     let after-step = c .before .before .before .before .before in
     let in-loop = after-step .before .before .before in
     let else2 = in-loop .before .before .before .before in
-    let start = else2 .before .before .before .before .before .before .before .before in
+    let start = start-of-number-of (else2 .before .before) in
     let s = start .args in
     let ws = s .words .now in
     let k = in-loop .before .loop in
@@ -195,7 +223,7 @@ same-length-2 c = c .before .loop .inv .numbers-as-long
 
 returns-4 : tie.Need-returns-4 Inv-loop μ-loop
 returns-4 c =
-    let s = c .before .before .before .before .before .before .before .before .before .before .before .before .args in
+    let s = start-of-loop-end c .args in
     let ws = s .words .now in
     let k = c .before .loop in
     let i : k .i ≡ length ws = omega arith in

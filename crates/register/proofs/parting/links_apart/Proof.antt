@@ -28,6 +28,10 @@ Inv-loop links «record» to₀ kept₀ i₀ to kept i = Parted links «record»
 abbrev μ-loop : tie.MeasureT-loop
 μ-loop links «record» to₀ kept₀ i₀ to kept i = length links - i
 
+-- The places that the needs come back to.
+abbrev start-of-stands-apart : tie.After-stands-apart Inv-loop μ-loop → tie.Start Inv-loop μ-loop
+start-of-stands-apart p = let at-loop = p .before .before .before in at-loop .before .before .before
+
 loop-holds : tie.Need-loop-holds Inv-loop μ-loop
 unfolding filter
 loop-holds c =
@@ -42,7 +46,7 @@ add-kept c = let l = c .before .before .before .before .loop in omega (arith, l 
 loop-again : tie.Need-loop-again Inv-loop μ-loop
 loop-again c =
     let l = c .before .before .before .before .loop in
-    let a = c .before .before .before .before .before .before .before .args in
+    let a = start-of-stands-apart (c .before) .args in
     let t = c .before .stands-apart .ensures in
     let low = l .inv .kept-most in
     let long = l .inv .room in
