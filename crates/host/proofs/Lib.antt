@@ -1,3 +1,4 @@
 pub mod CarryLaws
 pub mod DraftCarryLaws
+pub mod PreviewCarryLaws
 pub mod ReadLaws

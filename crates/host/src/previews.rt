@@ -1,25 +1,45 @@
-// The preview of an edit: the kind and arguments of one edit or undo, and one pair question.
+// The preview of an edit: the kind and arguments of one edit or undo, and one pair question. The edit is made on a copy of the caller's words, and the question
+// is asked of the copy.
 ghost use lib.ListN.{length};
 ghost use Rattle.register.specs.Calls.{callOf};
 ghost use Rattle.register.specs.History.{kindCall};
 ghost use Rattle.host.specs.Previews.{Foresees, Previewed};
+use answers::copy_u32;
 use answers::told;
 use answers::told_refusal;
 use register::Call;
 use register::Entry;
-use register::Register;
+
+// The preview of a call, made on the words themselves.
+fn foresee(
+    words: &mut [u32],
+    call: Call,
+    text: &[u8],
+    work: &mut [u64],
+    list: &mut [u32],
+) -> u64
+    ensures { λ k. ⌜ Foresees (callOf call) (now (words .entry)) (now (text .entry)) (length (now (work .entry))) (now (list .entry)) (now (list .exit)) k ⌝ }
+{
+    let number = register::edit_in(words, call);
+    if number != 0 {
+        return told_refusal(number);
+    }
+    let edited = &words[..];
+    let marks = register::marks_in(edited);
+    let links = register::links_in(edited);
+    told(rowpairs::pairs_over_as_trees(marks, links, text, work, list))
+}
 
 // The preview of a call on the register whose words the state has.
 fn preview(state: &[u32], call: Call, text: &[u8], work: &mut [u64], list: &mut [u32]) -> u64
     ensures { λ k. ⌜ Foresees (callOf call) (now (state .entry)) (now (text .entry)) (length (now (work .entry))) (now (list .entry)) (now (list .exit)) k ⌝ }
 {
-    let loaded = Register::load(state);
-    let answer = loaded.answer;
-    if register::number_of(answer) != 0 {
+    if state.len() < register::STATE_WORDS {
         return told_refusal(book::NOT_OPEN);
     }
-    let register = loaded.register;
-    told(engine::preview(register, call, text, work, list))
+    let mut words: [u32; register::STATE_WORDS] = [0; register::STATE_WORDS];
+    copy_u32(&state[..register::STATE_WORDS], &mut words, 0);
+    foresee(&mut words, call, text, work, list)
 }
 
 // The pairs of an expression if an edit or undo were made, as many as the list takes; how many they are in all. The kind is a frame's, and of a record alone

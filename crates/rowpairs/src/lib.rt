@@ -16,6 +16,7 @@ pub use leaving::relation;
 pub use listing::pairs;
 pub use listing::pairs_by_rows;
 pub use listing::pairs_over;
+pub use listing::pairs_over_as_trees;
 
 // How many labels there are; of a label, that there is none.
 const LABELS: u8 = book::LABELS as u8;

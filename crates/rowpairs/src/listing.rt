@@ -124,27 +124,8 @@ fn answer(
     }
 }
 
-// The pairs that have a chain, ascending, each once, as many as the list takes; how many they are in all. Work of its own is needed: 32 relations of n rows.
-pub fn pairs_by_rows(register: Register, text: &[u8], work: &mut [u64], list: &mut [u32]) -> Counted
-    ensures { λ a. ⌜ AsksRows register (now (text .entry)) (length (now (work .entry))) (now (list .entry)) (now (list .exit)) a ⌝ }
-{
-    let n = register.size();
-    let links = register.links();
-    let count = links.count;
-    let array = links.words;
-    let marks = register.marks();
-    answer(
-        n,
-        &array[..count],
-        &marks,
-        text,
-        query::rows_work(n),
-        work,
-        list,
-    )
-}
-
-// The same of what was read of a register: its marks and links.
+// The pairs that have a chain, ascending, each once, as many as the list takes; how many they are in all: of what was read of a register, its marks and links.
+// Work of its own is needed: 32 relations of n rows.
 pub fn pairs_over(
     marks: &[u32],
     links: &[u32],
@@ -160,22 +141,42 @@ pub fn pairs_over(
     answer(n, links, marks, text, query::rows_work(n), work, list)
 }
 
-// The same answer with the promise of trees, and so with their work, by rows.
+// The same answer with the promise of trees, and so with their work.
+pub fn pairs_over_as_trees(
+    marks: &[u32],
+    links: &[u32],
+    text: &[u8],
+    work: &mut [u64],
+    list: &mut [u32],
+) -> Counted
+    requires { ⌜ (length (now marks) ≤ maxRecords) × (length (now links) ≤ maxLinks) ⌝ }
+    ensures { λ a. ⌜ ((self : Register) → ReadOf self (now (marks .entry)) (now (links .entry))
+        → AsksPairs self (now (text .entry)) (length (now (work .entry))) (now (list .entry)) (now (list .exit)) a) ⌝ }
+{
+    let n = marks.len();
+    answer(n, links, marks, text, query::pairs_work(n), work, list)
+}
+
+// The pairs of a register, with the work of rows.
+pub fn pairs_by_rows(register: Register, text: &[u8], work: &mut [u64], list: &mut [u32]) -> Counted
+    ensures { λ a. ⌜ AsksRows register (now (text .entry)) (length (now (work .entry))) (now (list .entry)) (now (list .exit)) a ⌝ }
+{
+    let n = register.size();
+    let marks = register.marks();
+    let links = register.links();
+    let words = links.words;
+    let count = links.count;
+    pairs_over(&marks[0..n], &words[0..count], text, work, list)
+}
+
+// The same with the promise of trees, and so with their work.
 pub fn pairs(register: Register, text: &[u8], work: &mut [u64], list: &mut [u32]) -> Counted
     ensures { λ a. ⌜ AsksPairs register (now (text .entry)) (length (now (work .entry))) (now (list .entry)) (now (list .exit)) a ⌝ }
 {
     let n = register.size();
-    let links = register.links();
-    let count = links.count;
-    let array = links.words;
     let marks = register.marks();
-    answer(
-        n,
-        &array[..count],
-        &marks,
-        text,
-        query::pairs_work(n),
-        work,
-        list,
-    )
+    let links = register.links();
+    let words = links.words;
+    let count = links.count;
+    pairs_over_as_trees(&marks[0..n], &words[0..count], text, work, list)
 }
