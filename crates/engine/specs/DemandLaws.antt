@@ -30,7 +30,7 @@ use Rattle.paths.specs.PairLaws.{fit-inside, pairs-are, first-part}
 use Rattle.paths.specs.FirstChainLaws.{has-first, length-step-words}
 use Rattle.paths.specs.GraphLaws.{some-reply}
 use Rattle.paths.specs.Verdicts.{verdict, verdict-right, verdict-only, accepted-same}
-use Rattle.paths.specs.Questions.{Outcome, refused, replied, unless, workFor, chainWork, ReplyTo, steps, chainCauses, chainAnswer}
+use Rattle.paths.specs.Questions.{Outcome, Engine, refused, replied, unless, workFor, chainWork, ReplyTo, steps, chainCauses, chainAnswer}
 use Rattle.paths.specs.Questions.{pairsCauses, pairsAnswer, over, listAfter, countOf, Tells}
 use Rattle.links.specs.Links.{Linked}
 use Rattle.register.specs.Representation.{Represents}
@@ -45,8 +45,8 @@ use Rattle.chains.specs.Replies.{outcomeOf, chainCounted, Replies}
 use Rattle.chains.specs.declared.ChainAnswer.{ChainAnswer}
 use Rattle.chains.specs.declared.ChainAnswer.the-variants.{Chain, NoChain, Refused as NotAnswered}
 use Rattle.engine.specs.Inquiries.{Gave}
-use Rattle.engine.specs.Demand.{PairsAsked, ChainAsked, Transcript, bookAfter}
-use Rattle.engine.specs.Demand.{PairsSay, PairsClaim, FirstHanded, ChainClaim, Demand}
+use Rattle.engine.specs.Demand.{Question, Transcript, Shown, bookAfter, PairsSay, PairsClaim, ChainClaim, Demand}
+use Rattle.engine.specs.declared.Ends.{Ends}
 
 -- what a register shows lies within its records
 small : {e : Register} {b : Book} → Represents e b → b .n ≤ 1024
@@ -57,46 +57,46 @@ refused-uncounted : {o : Outcome} {a : Counted} (k : ℕ) → a ≡ countOf o �
 unfolding countOf
 refused-uncounted k t e m p = let z : Count m ≡ countOf (refused k) = sym p ∙ t ∙ ap countOf e in let y : _≡_ {A = ℕ} 0 1 = cc in omega arith
 
-module _ {r : Register} {b : Book} (R : Represents r b) (q : PairsAsked)
-    (T : Tells (pairsAnswer (q .engine) b (verdict (q .text)) (q .work) (length (q .before))) (q .before) (q .after) (q .answer)) where
+module _ {r : Register} {b : Book} (R : Represents r b) (q : Question Engine Counted)
+    (T : Tells (pairsAnswer (q .about) b (verdict (q .text)) (q .work) (length (q .list .before))) (q .list .before) (q .list .after) (q .answer)) where
   at : (u : Verdict) → verdict (q .text) ≡ u
-      → pairsAnswer (q .engine) b (verdict (q .text)) (q .work) (length (q .before)) ≡ pairsAnswer (q .engine) b u (q .work) (length (q .before))
-  at u v = ap (λ (u : Verdict). pairsAnswer (q .engine) b u (q .work) (length (q .before))) v
+      → pairsAnswer (q .about) b (verdict (q .text)) (q .work) (length (q .list .before)) ≡ pairsAnswer (q .about) b u (q .work) (length (q .list .before))
+  at u v = ap (λ (u : Verdict). pairsAnswer (q .about) b u (q .work) (length (q .list .before))) v
 
-  pairs-say : (e : Expr) → verdict (q .text) ≡ accepted e → workFor (q .engine) (b .n) ≤ q .work → PairsSay b e q
+  pairs-say : (e : Expr) → verdict (q .text) ≡ accepted e → workFor (q .about) (b .n) ≤ q .work → PairsSay b e q
   unfolding listAfter countOf asked
   pairs-say e v h =
       let l = pairs (asked b) e in
       let are = pairs-are (asked b) (fit-inside b (R .sheet .fit)) (small R) e in
-      let o = at (accepted e) v ∙ outcome-paired (q .engine) b (q .work) (length (q .before)) e h in (
+      let o = at (accepted e) v ∙ outcome-paired (q .about) b (q .work) (length (q .list .before)) e h in (
         l,
         are,
         T .answer ∙ ap countOf o,
-        T .list ∙ ap (λ (u : Outcome). listAfter u (q .before)) o,
-        λ w v. first-part (length (q .before)) w v l (are .ascending),
+        T .list ∙ ap (λ (u : Outcome). listAfter u (q .list .before)) o,
+        λ w v. first-part (length (q .list .before)) w v l (are .ascending),
       )
 
   pairs-handed : (k : ℕ) → q .answer ≡ Count k → (e : Expr) × Judged (q .text) (accepted e) × PairsSay b e q
   unfolding pairsAnswer pairsCauses verdictCause firstNumber number
   pairs-handed k p = go (verdict (q .text)) refl
     where
-      not-refused : (c : ℕ) (u : Verdict) → verdict (q .text) ≡ u → pairsAnswer (q .engine) b u (q .work) (length (q .before)) ≡ refused c → ⊥
+      not-refused : (c : ℕ) (u : Verdict) → verdict (q .text) ≡ u → pairsAnswer (q .about) b u (q .work) (length (q .list .before)) ≡ refused c → ⊥
       not-refused c u v o = refused-uncounted c (T .answer) (at u v ∙ o) k p
 
-      enough : (e : Expr) → verdict (q .text) ≡ accepted e → Dec (q .work < workFor (q .engine) (b .n)) → workFor (q .engine) (b .n) ≤ q .work
-      enough e v (yes h) = absurd (not-refused 12 (accepted e) v (outcome-short (q .engine) b (q .work) (length (q .before)) e h))
+      enough : (e : Expr) → verdict (q .text) ≡ accepted e → Dec (q .work < workFor (q .about) (b .n)) → workFor (q .about) (b .n) ≤ q .work
+      enough e v (yes h) = absurd (not-refused 12 (accepted e) v (outcome-short (q .about) b (q .work) (length (q .list .before)) e h))
       enough e v (no h) = omega arith
 
       go : (u : Verdict) → verdict (q .text) ≡ u → (e : Expr) × Judged (q .text) (accepted e) × PairsSay b e q
-      go (accepted e) v = (e, subst (Judged (q .text)) v (verdict-right (q .text)), pairs-say e v (enough e v (decLt (q .work) (workFor (q .engine) (b .n)))))
+      go (accepted e) v = (e, subst (Judged (q .text)) v (verdict-right (q .text)), pairs-say e v (enough e v (decLt (q .work) (workFor (q .about) (b .n)))))
       go long v = absurd (not-refused (number too-many-bytes) long v refl)
       go outside v = absurd (not-refused (number no-expression) outside v refl)
       go large v = absurd (not-refused (number too-large) large v refl)
 
-pub pairs-claim : {r : Register} {b : Book} → Represents r b → (q : PairsAsked)
-    → AsksFor (q .engine) r (verdict (q .text)) (q .work) (q .before) (q .after) (q .answer) → PairsClaim b q
+pub pairs-claim : {r : Register} {b : Book} → Represents r b → (q : Question Engine Counted)
+    → AsksFor (q .about) r (verdict (q .text)) (q .work) (q .list .before) (q .list .after) (q .answer) → PairsClaim b q
 pairs-claim {b = b} R q Q = let T = Q .book b R in
-    record { says = λ e A. pairs-say R q T e (sym (verdict-only (A .expression))) (A .work); handed = pairs-handed R q T }
+    record { says = λ e J w. pairs-say R q T e (sym (verdict-only J)) w; handed = pairs-handed R q T }
 
 -- ---- chain questions
 module _ {e : Register} {b : Book} (R : Represents e b) (x y : ℕ) (text : List ℕ) (work : ℕ)
@@ -152,20 +152,6 @@ module _ {e : Register} {b : Book} (R : Represents e b) (x y : ℕ) (text : List
   unfolding steps
   none-handed n = let o = outcome none (no-chain n) (omega arith) in (says-none a (o .0), o .1)
 
-  -- where there is a chain, the outcome never says that there is none
-  not-none : (k : ℕ) (ws : List ℕ) → replied none ≡ unless k (replied (chain ws)) → ⊥
-  not-none zero ws q = let z : _≡_ {A = ℕ} 0 1 = cc in omega arith
-  not-none (suc k) ws q = let z : _≡_ {A = ℕ} 0 1 = cc in omega arith
-
-  none-only : a ≡ NoChain → (ss : List Step) → Answers (asked b) f x y ss → ⊥
-  unfolding outcomeOf chainAnswer
-  none-only q ss A =
-      let F = has-first (asked b) (fit-inside b (R .sheet .fit)) f x y (ss, A) in
-      let t : Reply = chain (stepWords (F .0)) in
-      let o = Q .answers b R t (reply-to t (first-chain (F .0) (F .1))) .0 in
-      not-none (firstNumber (chainCauses b x y (verdict text) t work (length before)))
-      (stepWords (F .0)) (sym (ap (λ (r : ChainAnswer). outcomeOf r after′) q) ∙ o)
-
   -- where there is a chain there is a first one
   first-of : (ts : List Step) → Answers (asked b) f x y ts
       → (ss : List Step) × First (asked b) f x y ss × (length ss ≤ length before → (a ≡ Chain (length ss)) × (after′ ≡ over (stepWords ss) before))
@@ -196,114 +182,121 @@ steps-told k ws before after′ h t l =
     let n = ap length l ∙ length-append ws (drop (length ws) before) in
     sym (length-take-le k after′ (omega (arith, n, d))) ∙ ap length t
 
-chain-handed : {r : Register} {b : Book} → Represents r b → (q : ChainAsked)
-    → Replies r (q .from) (q .to) (q .text) (q .work) (q .before) (q .after) (q .answer) → (k : ℕ) → q .answer ≡ Chain k
+-- a chain of k steps is handed out: the first one
+abbrev FirstHanded : Book → Expr → Question Ends ChainAnswer → ℕ → Type 0
+FirstHanded b e q k =
+    (ss : List Step) × First (asked b) e (q .about .from) (q .about .to) ss × (k ≡ length ss) × (q .list .after ≡ over (stepWords ss) (q .list .before))
+
+chain-handed : {r : Register} {b : Book} → Represents r b → (q : Question Ends ChainAnswer)
+    → Replies r (q .about .from) (q .about .to) (q .text) (q .work) (q .list .before) (q .list .after) (q .answer) → (k : ℕ) → q .answer ≡ Chain k
     → (e : Expr) × Judged (q .text) (accepted e) × FirstHanded b e q k
 unfolding outcomeOf counted chainCounted chainAnswer listAfter steps
 chain-handed {r} {b} R q Q k p = go (some .0) refl (J .0) (subst (λ (v : Verdict). Judged (q .text) v) (J .1) (verdict-right (q .text))) (some .1 (J .0) (J .1))
   where
-    some : (t : Reply) × ReplyTo (asked b) (verdict (q .text)) (q .from) (q .to) t
-    some = some-reply (asked b) (fit-inside b (R .sheet .fit)) (verdict (q .text)) (q .from) (q .to)
+    some : (t : Reply) × ReplyTo (asked b) (verdict (q .text)) (q .about .from) (q .about .to) t
+    some = some-reply (asked b) (fit-inside b (R .sheet .fit)) (verdict (q .text)) (q .about .from) (q .about .to)
 
     causes : ℕ
-    causes = firstNumber (chainCauses b (q .from) (q .to) (verdict (q .text)) (some .0) (q .work) (length (q .before)))
+    causes = firstNumber (chainCauses b (q .about .from) (q .about .to) (verdict (q .text)) (some .0) (q .work) (length (q .list .before)))
 
-    both : (replied (chain (take k (q .after))) ≡ unless causes (replied (some .0))) × (q .after ≡ listAfter (unless causes (replied (some .0))) (q .before))
-    both = let o = Q .answers b R (some .0) (some .1) in (sym (ap (λ (a : ChainAnswer). outcomeOf a (q .after)) p) ∙ o .0, o .1)
+    both : (replied (chain (take k (q .list .after))) ≡ unless causes (replied (some .0)))
+        × (q .list .after ≡ listAfter (unless causes (replied (some .0))) (q .list .before))
+    both = let o = Q .answers b R (some .0) (some .1) in (sym (ap (λ (a : ChainAnswer). outcomeOf a (q .list .after)) p) ∙ o .0, o .1)
 
-    came : (causes ≡ 0) × (chain (take k (q .after)) ≡ some .0)
-    came = come causes (some .0) (chain (take k (q .after))) (both .0)
+    came : (causes ≡ 0) × (chain (take k (q .list .after)) ≡ some .0)
+    came = come causes (some .0) (chain (take k (q .list .after))) (both .0)
 
     J : (e : Expr) × (verdict (q .text) ≡ accepted e)
-    J = no-cause-read b (q .from) (q .to) (verdict (q .text)) (some .0) (q .work) (length (q .before)) (came .0)
+    J = no-cause-read b (q .about .from) (q .about .to) (verdict (q .text)) (some .0) (q .work) (length (q .list .before)) (came .0)
 
-    fits : k ≤ length (q .before)
-    fits = subst (λ (a : ChainAnswer). counted (chainCounted a) ≤ length (q .before)) p (Q .contained .fits)
+    fits : k ≤ length (q .list .before)
+    fits = subst (λ (a : ChainAnswer). counted (chainCounted a) ≤ length (q .list .before)) p (Q .contained .fits)
 
-    written : q .after ≡ listAfter (replied (some .0)) (q .before)
-    written = both .1 ∙ ap (λ (c : ℕ). listAfter (unless c (replied (some .0))) (q .before)) (came .0)
+    written : q .list .after ≡ listAfter (replied (some .0)) (q .list .before)
+    written = both .1 ∙ ap (λ (c : ℕ). listAfter (unless c (replied (some .0))) (q .list .before)) (came .0)
 
-    go : (t : Reply) → t ≡ some .0 → (e : Expr) → Judged (q .text) (accepted e) → ChainIs (asked b) e (q .from) (q .to) (some .0)
+    go : (t : Reply) → t ≡ some .0 → (e : Expr) → Judged (q .text) (accepted e) → ChainIs (asked b) e (q .about .from) (q .about .to) (some .0)
         → (e : Expr) × Judged (q .text) (accepted e) × FirstHanded b e q k
     go none z e j c = absurd (let y : _≡_ {A = ℕ} 0 1 = let s = came .1 in cc in omega arith)
-    go (chain ws) z e j c = ahead e j ws (came .1 ∙ sym z) (subst (ChainIs (asked b) e (q .from) (q .to)) (sym z) c)
-        (written ∙ ap (λ (t : Reply). listAfter (replied t) (q .before)) (sym z))
+    go (chain ws) z e j c = ahead e j ws (came .1 ∙ sym z) (subst (ChainIs (asked b) e (q .about .from) (q .about .to)) (sym z) c)
+        (written ∙ ap (λ (t : Reply). listAfter (replied t) (q .list .before)) (sym z))
       where
         ahead : (e : Expr) → Judged (q .text) (accepted e) → (ws : List ℕ)
-            → chain (take k (q .after)) ≡ chain ws → ChainIs (asked b) e (q .from) (q .to) (chain ws)
-            → q .after ≡ listAfter (replied (chain ws)) (q .before) → (e : Expr) × Judged (q .text) (accepted e) × FirstHanded b e q k
+            → chain (take k (q .list .after)) ≡ chain ws → ChainIs (asked b) e (q .about .from) (q .about .to) (chain ws)
+            → q .list .after ≡ listAfter (replied (chain ws)) (q .list .before) → (e : Expr) × Judged (q .text) (accepted e) × FirstHanded b e q k
         ahead e j ws s (first-chain ss F) l =
-            let t : take k (q .after) ≡ stepWords ss = cc in
-            (e, j, (ss, F, steps-told k (stepWords ss) (q .before) (q .after) fits t l ∙ length-step-words ss, l))
+            let t : take k (q .list .after) ≡ stepWords ss = cc in
+            (e, j, (ss, F, steps-told k (stepWords ss) (q .list .before) (q .list .after) fits t l ∙ length-step-words ss, l))
 
 -- a question that is told there is no chain was accepted, and there is none of any length
-none-said : {r : Register} {b : Book} → Represents r b → (q : ChainAsked)
-    → Replies r (q .from) (q .to) (q .text) (q .work) (q .before) (q .after) (q .answer) → q .answer ≡ NoChain
-    → (e : Expr) × Judged (q .text) (accepted e) × ((ss : List Step) → Answers (asked b) e (q .from) (q .to) ss → ⊥) × (q .after ≡ q .before)
+none-said : {r : Register} {b : Book} → Represents r b → (q : Question Ends ChainAnswer)
+    → Replies r (q .about .from) (q .about .to) (q .text) (q .work) (q .list .before) (q .list .after) (q .answer) → q .answer ≡ NoChain
+    → (e : Expr) × Judged (q .text) (accepted e)
+    × ((ss : List Step) → Answers (asked b) e (q .about .from) (q .about .to) ss → ⊥) × (q .list .after ≡ q .list .before)
 unfolding outcomeOf chainAnswer listAfter steps
 none-said {r} {b} R q Q p = (
   J .0,
   subst (λ (v : Verdict). Judged (q .text) v) (J .1) (verdict-right (q .text)),
-  none-left (J .0) (subst (ChainIs (asked b) (J .0) (q .from) (q .to)) (sym (came .1)) (some .1 (J .0) (J .1))),
+  none-left (J .0) (subst (ChainIs (asked b) (J .0) (q .about .from) (q .about .to)) (sym (came .1)) (some .1 (J .0) (J .1))),
   left,
 )
   where
-    some : (t : Reply) × ReplyTo (asked b) (verdict (q .text)) (q .from) (q .to) t
-    some = some-reply (asked b) (fit-inside b (R .sheet .fit)) (verdict (q .text)) (q .from) (q .to)
+    some : (t : Reply) × ReplyTo (asked b) (verdict (q .text)) (q .about .from) (q .about .to) t
+    some = some-reply (asked b) (fit-inside b (R .sheet .fit)) (verdict (q .text)) (q .about .from) (q .about .to)
 
     causes : ℕ
-    causes = firstNumber (chainCauses b (q .from) (q .to) (verdict (q .text)) (some .0) (q .work) (length (q .before)))
+    causes = firstNumber (chainCauses b (q .about .from) (q .about .to) (verdict (q .text)) (some .0) (q .work) (length (q .list .before)))
 
-    both : (replied none ≡ unless causes (replied (some .0))) × (q .after ≡ listAfter (unless causes (replied (some .0))) (q .before))
-    both = let o = Q .answers b R (some .0) (some .1) in (sym (ap (λ (a : ChainAnswer). outcomeOf a (q .after)) p) ∙ o .0, o .1)
+    both : (replied none ≡ unless causes (replied (some .0))) × (q .list .after ≡ listAfter (unless causes (replied (some .0))) (q .list .before))
+    both = let o = Q .answers b R (some .0) (some .1) in (sym (ap (λ (a : ChainAnswer). outcomeOf a (q .list .after)) p) ∙ o .0, o .1)
 
     came : (causes ≡ 0) × (none ≡ some .0)
     came = come causes (some .0) none (both .0)
 
     J : (e : Expr) × (verdict (q .text) ≡ accepted e)
-    J = no-cause-read b (q .from) (q .to) (verdict (q .text)) (some .0) (q .work) (length (q .before)) (came .0)
+    J = no-cause-read b (q .about .from) (q .about .to) (verdict (q .text)) (some .0) (q .work) (length (q .list .before)) (came .0)
 
-    left : q .after ≡ q .before
-    left = both .1 ∙ ap (λ (u : Outcome). listAfter u (q .before)) (sym (both .0))
+    left : q .list .after ≡ q .list .before
+    left = both .1 ∙ ap (λ (u : Outcome). listAfter u (q .list .before)) (sym (both .0))
 
-    none-left : (e : Expr) → ChainIs (asked b) e (q .from) (q .to) none → (ss : List Step) → Answers (asked b) e (q .from) (q .to) ss → ⊥
+    none-left : (e : Expr) → ChainIs (asked b) e (q .about .from) (q .about .to) none
+        → (ss : List Step) → Answers (asked b) e (q .about .from) (q .about .to) ss → ⊥
     none-left e (no-chain n) = n
 
-pub chain-claim : {r : Register} {b : Book} → Represents r b → (q : ChainAsked)
-    → Replies r (q .from) (q .to) (q .text) (q .work) (q .before) (q .after) (q .answer) → ChainClaim b q
+pub chain-claim : {r : Register} {b : Book} → Represents r b → (q : Question Ends ChainAnswer)
+    → Replies r (q .about .from) (q .about .to) (q .text) (q .work) (q .list .before) (q .list .after) (q .answer) → ChainClaim b q
 chain-claim {r} {b} R q Q =
     record {
-      says = λ e A.
+      says = λ e J x y w.
           record {
-            first = first-of R (q .from) (q .to) (q .text) (q .work) (q .before) (q .after) (q .answer) Q e (A .expression) (A .from) (A .to) (A .work);
-            none = none-handed R (q .from) (q .to) (q .text) (q .work) (q .before) (q .after) (q .answer) Q e (A .expression) (A .from) (A .to) (A .work);
-            no-other = none-only R (q .from) (q .to) (q .text) (q .work) (q .before) (q .after) (q .answer) Q e (A .expression) (A .from) (A .to) (A .work);
+            first = first-of R (q .about .from) (q .about .to) (q .text) (q .work) (q .list .before) (q .list .after) (q .answer) Q e J x y w;
+            none = none-handed R (q .about .from) (q .about .to) (q .text) (q .work) (q .list .before) (q .list .after) (q .answer) Q e J x y w;
           };
       handed = chain-handed R q Q;
       silent = none-said R q Q;
     }
 
 -- ---- the whole claim
-module _ {r : Register} (i : Transcript) (G : Gave r i) where
-  pub claims : i .told ≡ answers (fresh (i .n)) (i .calls) → Gives (givens (fresh (i .n)) (i .calls)) (i .lists) → Represents r (bookAfter i) → Demand i
+module _ {r : Register} (t : Transcript Counted ChainAnswer) (s : Shown) (G : Gave r t s) where
+  pub claims : t .told ≡ answers (fresh (t .n)) (t .calls) → Gives (givens (fresh (t .n)) (t .calls)) (t .lists) → Represents r (bookAfter t) → Demand t s
   claims a g R =
       let l = G .links in
       record {
         answers = a;
         givens = g;
-        size = G .size .size (bookAfter i) R;
-        links = subst (λ (ws : List ℕ). Linked ws (bookAfter i .sheet)) (sym (l .2)) (l .1 .linked (bookAfter i) R);
-        marks = G .marks .marks (bookAfter i) R;
-        totals = G .totals .totals (bookAfter i) R;
-        pairs = pairs-claim R (i .pairs) (G .pairs);
-        chain = chain-claim R (i .chain) (G .chain);
+        size = G .size .size (bookAfter t) R;
+        links = subst (λ (ws : List ℕ). Linked ws (bookAfter t .sheet)) (sym (l .2)) (l .1 .linked (bookAfter t) R);
+        marks = G .marks .marks (bookAfter t) R;
+        totals = G .totals .totals (bookAfter t) R;
+        pairs = pairs-claim R (t .pairs) (G .pairs);
+        chain = chain-claim R (t .chain) (G .chain);
       }
 
-  pub demand-3 : {out : Told} → 1 ≤ i .n → i .n ≤ maxRecords → Opens (i .n) out → CallsMade (out .register) (i .calls) (i .told) (i .lists) r → Demand i
+  pub demand-3 : {out : Told} → 1 ≤ t .n → t .n ≤ maxRecords → Opens (t .n) out → CallsMade (out .register) (t .calls) (t .told) (t .lists) r → Demand t s
   unfolding freshAnswer firstNumber number
   demand-3 l h O run =
-      let z : freshAnswer (i .n) ≡ 0 = rw (le-ltb (i .n) 1 l, le-ltb maxRecords (i .n) h) in
-      let o = history (i .n) (O .made z) run in
+      let z : freshAnswer (t .n) ≡ 0 = rw (le-ltb (t .n) 1 l, le-ltb maxRecords (t .n) h) in
+      let o = history (t .n) (O .made z) run in
       claims (o .0) (o .1) (o .2)
 
 -- ---- of a replay

@@ -46,6 +46,5 @@ pub record SameAnswers (p q : Register) : Type 0 where
   pub chain : (x y : ℕ) (text : List ℕ) (work : ℕ) (before after after′ : List ℕ) (a a′ : ChainAnswer)
       → Replies p x y text work before after a → Replies q x y text work before after′ a′ → (a ≡ a′) × (after ≡ after′)
 
-pub record NoAccount (o o′ p p′ : Outcome) : Type 0 where
-  pub accepted : o .answer ≡ Done → o′ .answer ≡ Done → (p .answer ≡ Done) × (p′ .answer ≡ Done)
-  pub same : o .answer ≡ Done → o′ .answer ≡ Done → SameAnswers (o′ .register) (p′ .register)
+abbrev pub NoAccount : Outcome → Outcome → Outcome → Outcome → Type 0
+NoAccount o o′ p p′ = o .answer ≡ Done → o′ .answer ≡ Done → (p .answer ≡ Done) × (p′ .answer ≡ Done) × SameAnswers (o′ .register) (p′ .register)

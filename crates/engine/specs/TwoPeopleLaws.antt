@@ -142,7 +142,7 @@ pub two-people : (r : Register) (b : Book) → Represents r b → length (b .she
     → (linkIn x ≡ linkIn y → ⊥) → (o o′ p p′ : Outcome) → Entered r d e o o′ p p′ → NoAccount o o′ p p′
 two-people r b R short d e x y apart o o′ p p′ E =
     let room : length (b .sheet .links) < maxLinks = omega (arith, short) in
-    record { accepted = λ f g. both-done b R room x y apart E f g; same = λ f g. ends-same b R room x y apart E f g }
+    λ f g. let both = both-done b R room x y apart E f g in (both .0, both .1, ends-same b R room x y apart E f g)
 
 -- of every register that calls made
 pub two-people-made : {n : ℕ} {cs : List Call} {r : Register} → MadeBy n cs r → length (after (fresh n) cs .sheet .links) + 2 ≤ maxLinks

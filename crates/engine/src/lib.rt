@@ -189,20 +189,17 @@ pub fn inquire(
     ensures { λ r. ⌜ Inquires n (now (calls .entry)) (record { before = now (told .entry); after = now (told .exit) })
         (record { before = now (numbers .entry); after = now (numbers .exit) })
         (record {
-          engine = by-trees;
+          about = by-trees;
           text = now (text .entry);
           work = length (now (work .entry));
-          before = now (list .entry);
-          after = now (list .exit);
+          list = record { before = now (list .entry); after = now (list .exit) };
           answer = r .pairs;
         })
         (record {
-          from = ends .from;
-          to = ends .to;
+          about = ends;
           text = now (text .entry);
           work = length (now (work .entry));
-          before = now (steps .entry);
-          after = now (steps .exit);
+          list = record { before = now (steps .entry); after = now (steps .exit) };
           answer = r .chain;
         }) r ⌝ }
 {

@@ -50,13 +50,13 @@ use Rattle.chains.specs.declared.ChainAnswer.{ChainAnswer}
 use Rattle.chains.specs.declared.ChainAnswer.the-variants.{Chain, NoChain, Refused as ChainRefused}
 use Rattle.chains.specs.Replies.{outcomeOf as replyOf, chainCounted, Replies}
 use Rattle.generations.specs.Generations.{Longest, Returns, FirstLoop, Numbered, no-record, not-in-use, in-use, Outcome, refused, numbers, loop}
-use Rattle.generations.specs.Generations.{GenerationsAre, no-loop, first-loop, above, generationsWork, argumentCauses, generationsCauses, unless}
-use Rattle.generations.specs.Generations.{OutcomeIs, not-asked, answered, written, listAfter}
+use Rattle.generations.specs.Generations.{GenerationsAre, no-loop, first-loop, above, argumentCauses}
+use Rattle.generations.specs.Generations.{OutcomeIs, not-asked, short, answered, written}
 use Rattle.generations.specs.GenerationsLaws.{returns-longer}
 use Rattle.generations.specs.LoopLaws.{loopExpr, loop-in-use, loop-answers, loop-is-first, first-is-loop, loop-labels, set-verdict}
 use Rattle.generations.specs.Inner.{Contains, Right, Leads, chosen, Smallest, Closed, loopText}
 use Rattle.generations.specs.Generating.{outcomeOf, generationsCounted, Generates}
-use Rattle.generations.specs.Inner.{loopOutcome, Looped}
+use Rattle.generations.specs.Inner.{unless, loopOutcome, Looped}
 use Rattle.generations.specs.declared.GenerationsAnswer.{GenerationsAnswer}
 use Rattle.generations.specs.declared.GenerationsAnswer.the-variants.{Numbers, Loop, Refused}
 use Rattle.generations.proofs.RunLaws.{top-longest, leads-returns, links-set, closed-returns, returns-closed}
@@ -116,24 +116,21 @@ module _ (b : Book) (ls : List ℕ) (work room : ℕ) where
   label-first e = not-asked {k = 2} (rw e refl)
 
   module _ (low : above ls ≡ false) where
-    pub work-next : work < generationsWork (b .n) → OutcomeIs b ls work room (refused 12)
+    pub work-next : work < chainWork (b .n) → OutcomeIs b ls work room (refused 12)
     unfolding argumentCauses firstNumber number
     work-next h = not-asked {k = 11} (rw (low, lt-ltb work (64 * b .n) h) refl)
 
-    module _ (enough : generationsWork (b .n) ≤ work) {o : Outcome} (G : GenerationsAre (asked b) ls o) where
+    module _ (enough : chainWork (b .n) ≤ work) {o : Outcome} (G : GenerationsAre (asked b) ls o) where
       no-cause : firstNumber (argumentCauses b ls work) ≡ 0
       unfolding argumentCauses firstNumber number
       no-cause = rw (low, le-ltb work (64 * b .n) enough)
 
-      by-room : (t : Bool) → ltb room (length (written o)) ≡ t → firstNumber (generationsCauses b ls work room o) ≡ pick t 13 0
-      unfolding generationsCauses argumentCauses firstNumber number
-      by-room t e = rw (low, le-ltb work (64 * b .n) enough, e)
-
       pub list-last : room < length (written o) → OutcomeIs b ls work room (refused 13)
-      list-last h = subst (OutcomeIs b ls work room) (ap (λ (k : ℕ). unless k o) (by-room true (lt-ltb room (length (written o)) h))) (answered no-cause G)
+      unfolding number
+      list-last h = short no-cause G h
 
       pub told : length (written o) ≤ room → OutcomeIs b ls work room o
-      told h = subst (OutcomeIs b ls work room) (ap (λ (k : ℕ). unless k o) (by-room false (le-ltb room (length (written o)) h))) (answered no-cause G)
+      told h = answered no-cause G h
 
 -- ---- the promise
 -- a refusal
@@ -164,7 +161,7 @@ tells-numbers {self} {ls} {work} {list} {list′} {k} l w h =
     }
 
 -- the loop's outcome
-pub loop-told : (b : Book) (ls : List ℕ) (work room : ℕ) → above ls ≡ false → generationsWork (b .n) ≤ work
+pub loop-told : (b : Book) (ls : List ℕ) (work room : ℕ) → above ls ≡ false → chainWork (b .n) ≤ work
     → (ws : List ℕ) → GenerationsAre (asked b) ls (loop ws) → OutcomeIs b ls work room (loopOutcome room ws)
 unfolding firstNumber number written
 loop-told b ls work room low enough ws G = go (ltb room (length ws)) refl
@@ -175,7 +172,7 @@ loop-told b ls work room low enough ws G = go (ltb room (length ws)) refl
 
 pub tells-loop : {self : Register} {ls : List ℕ} {m x work : ℕ} {list list′ : List ℕ} {r : GenerationsAnswer}
     → Looped self m x work list list′ r → above ls ≡ false → Contains m ls
-    → ((b : Book) → Represents self b → (generationsWork (b .n) ≤ work)
+    → ((b : Book) → Represents self b → (chainWork (b .n) ≤ work)
     × ((ss : List Step) × FirstLoop (asked b) ls x ss × GenerationsAre (asked b) ls (loop (stepWords ss))))
     → Generates self ls work list list′ r
 tells-loop {self} {ls} {m} {x} {work} {list} {list′} {r} P low C h = record {
@@ -201,7 +198,7 @@ module _ (b : Book) (x : ℕ) (hx : x < b .n) (work room : ℕ) (enough : chainW
   -- the answer that tells it, and the list
   told-loop : (t : Bool) (list list′ : List ℕ) (r : ChainAnswer) → replyOf r list′ ≡ questions.unless (pick t 13 0) (questions.replied (chain ws))
       → list′ ≡ questions.listAfter (questions.unless (pick t 13 0) (questions.replied (chain ws))) list
-      → (outcomeOf (loopAnswer r) list′ ≡ unless (pick t 13 0) (loop ws)) × (list′ ≡ listAfter (outcomeOf (loopAnswer r) list′) list)
+      → (outcomeOf (loopAnswer r) list′ ≡ unless (pick t 13 0) (loop ws)) × (list′ ≡ over (written (outcomeOf (loopAnswer r) list′)) list)
   unfolding replyOf outcomeOf written questions.listAfter steps
   told-loop true list list′ (Chain k) p q = absurd (let z : _≡_ {A = ℕ} 0 1 = cc in omega arith)
   told-loop true list list′ NoChain p q = absurd (let z : _≡_ {A = ℕ} 0 1 = cc in omega arith)
@@ -239,7 +236,7 @@ looped {self} {m} {x} {work} {text} {list} {list′} {r} P e = record {
 }
   where
     one : (b : Book) → Represents self b → chainWork (b .n) ≤ work → (ls : List ℕ) → Contains m ls → (ss : List Step) → FirstLoop (asked b) ls x ss
-        → (outcomeOf (loopAnswer r) list′ ≡ loopOutcome (length list) (stepWords ss)) × (list′ ≡ listAfter (outcomeOf (loopAnswer r) list′) list)
+        → (outcomeOf (loopAnswer r) list′ ≡ loopOutcome (length list) (stepWords ss)) × (list′ ≡ over (written (outcomeOf (loopAnswer r) list′)) list)
     one b R enough ls C ss F =
         let I : Inside (asked b) = fit-inside b (R .sheet .fit) in
         let u = loop-in-use (asked b) I m ls C (F .loop .chain) (F .loop .some) in

@@ -12,13 +12,14 @@ use mathlib.Core.Path.{_≡_}
 use mathlib.Core.List.{List}
 use Prim.Native.Nat.{ℕ}
 use lib.ListN.{length, take}
+use Rattle.book.specs.Basics.{over}
 use Rattle.book.specs.Book.{Book}
 use Rattle.answers.specs.Answers.{counted, Contained}
 use Rattle.answers.specs.declared.Counted.{Counted}
 use Rattle.answers.specs.declared.Counted.the-variants.{Count, Refused as Untold}
 use Rattle.register.specs.declared.Register.{Register}
 use Rattle.register.specs.Representation.{Represents}
-use Rattle.generations.specs.Generations.{Outcome, refused, numbers, loop, OutcomeIs, listAfter}
+use Rattle.generations.specs.Generations.{Outcome, refused, numbers, loop, written, OutcomeIs}
 use Rattle.generations.specs.declared.GenerationsAnswer.{GenerationsAnswer}
 use Rattle.generations.specs.declared.GenerationsAnswer.the-variants.{Numbers, Loop, Refused}
 
@@ -33,7 +34,7 @@ generationsCounted (Loop k) = Count k
 generationsCounted (Refused k) = Untold k
 
 abbrev pub BookGenerates : Book → List ℕ → ℕ → List ℕ → List ℕ → GenerationsAnswer → Type 0
-BookGenerates b ls work list list′ r = OutcomeIs b ls work (length list) (outcomeOf r list′) × (list′ ≡ listAfter (outcomeOf r list′) list)
+BookGenerates b ls work list list′ r = OutcomeIs b ls work (length list) (outcomeOf r list′) × (list′ ≡ over (written (outcomeOf r list′)) list)
 
 pub record Generates (self : Register) (ls : List ℕ) (work : ℕ) (list list′ : List ℕ) (r : GenerationsAnswer) : Type 0 where
   pub contained : Contained (length list) (counted (generationsCounted r)) list list′ (generationsCounted r)

@@ -10,25 +10,23 @@
 --   GenerationsAre g ls o
 --                        o is the answer: the numbers exactly if no record can return to itself, else the first loop of the smallest record that can
 --   above ls             whether a label of ls is above 25
---   generationsWork n    the words of work that are needed
---   written o, listAfter o l
---                        the words of an outcome, and what a result list that held l holds then
---   argumentCauses, generationsCauses
---                        the causes of a refusal in their order: those that do not hang on the answer, and all of them
+--   written o            the words of an outcome
+--   argumentCauses b ls work
+--                        the causes of a refusal that do not hang on the answer, in their order: the work is that of a chain question
 --   OutcomeIs b ls work room o
---                        o is the outcome with so many words of work and room for so many in the list
+--                        o is the outcome with so many words of work and room for so many in the list: last, the answer may be longer than the list
 -- Assumes nothing: these are definitions.
 use mathlib.Core.Path.{_≡_}
 use mathlib.Core.List.{List, [], _∷_, _++_}
 use mathlib.Core.Bool.{Bool, true, false, _||_}
-use Prim.Native.Nat.{ℕ, zero, suc, _≤_, _<_}
+use Prim.Native.Nat.{ℕ, suc, _≤_, _<_}
 use lib.ListN.{length}
 use lib.Dec.{leb, ltb, eqb}
 use Rattle.book.specs.Basics.{has, All}
-use Rattle.book.specs.Causes.{Cause, bad-label, short-work, short-list, firstNumber, labels}
+use Rattle.book.specs.Causes.{Cause, bad-label, short-work, short-list, number, firstNumber, labels}
 use Rattle.book.specs.Book.{Book}
 use Rattle.paths.specs.Chains.{Graph, asked, Step, Chain, stepWords, NotAfter}
-use Rattle.paths.specs.Questions.{chainWork, over}
+use Rattle.paths.specs.Questions.{chainWork}
 
 pub data Run (g : Graph) (ls : List ℕ) : ℕ → ℕ → Type 0 where
   stop : {y : ℕ} → Run g ls 0 y
@@ -72,29 +70,16 @@ unfoldable pub above : List ℕ → Bool
 above [] = false
 above (l ∷ ls) = leb labels l || above ls
 
-abbrev pub generationsWork : ℕ → ℕ
-generationsWork = chainWork
-
 unfoldable pub written : Outcome → List ℕ
 written (refused k) = []
 written (numbers l) = l
 written (loop ws) = ws
 
 unfoldable pub argumentCauses : Book → List ℕ → ℕ → List (Cause × Bool)
-argumentCauses b ls work = (bad-label, above ls) ∷ (short-work, ltb work (generationsWork (b .n))) ∷ []
-
-unfoldable pub generationsCauses : Book → List ℕ → ℕ → ℕ → Outcome → List (Cause × Bool)
-generationsCauses b ls work room o = argumentCauses b ls work ++ ((short-list, ltb room (length (written o))) ∷ [])
-
--- the number of a cause if there is one, else the answer
-abbrev pub unless : ℕ → Outcome → Outcome
-unless zero o = o
-unless (suc k) o = refused (suc k)
+argumentCauses b ls work = (bad-label, above ls) ∷ (short-work, ltb work (chainWork (b .n))) ∷ []
 
 pub data OutcomeIs (b : Book) (ls : List ℕ) (work room : ℕ) : Outcome → Type 0 where
   not-asked : {k : ℕ} → firstNumber (argumentCauses b ls work) ≡ suc k → OutcomeIs b ls work room (refused (suc k))
-  answered : {o : Outcome} → firstNumber (argumentCauses b ls work) ≡ 0 → GenerationsAre (asked b) ls o
-      → OutcomeIs b ls work room (unless (firstNumber (generationsCauses b ls work room o)) o)
-
-abbrev pub listAfter : Outcome → List ℕ → List ℕ
-listAfter o l = over (written o) l
+  short : {o : Outcome} → firstNumber (argumentCauses b ls work) ≡ 0 → GenerationsAre (asked b) ls o → room < length (written o)
+      → OutcomeIs b ls work room (refused (number short-list))
+  answered : {o : Outcome} → firstNumber (argumentCauses b ls work) ≡ 0 → GenerationsAre (asked b) ls o → length (written o) ≤ room → OutcomeIs b ls work room o

@@ -17,17 +17,18 @@ use mathlib.Core.Bool.{Bool, true, false≢true}
 use Prim.Native.Nat.{ℕ, suc, _+_, _<_}
 use native.Mathlib.Omega.{arith}
 use lib.ListN.{length}
+use lib.Dec.{ltb}
 use Rattle.book.specs.Basics.{pick, All, all-none, all-more}
-use Rattle.book.specs.Causes.{firstNumber}
+use Rattle.book.specs.Causes.{short-list}
 use Rattle.book.specs.CauseOrders.{InOrder, none-left, same-cause}
 use Rattle.book.specs.Book.{Book}
 use Rattle.paths.specs.Chains.{Graph, Step, crossing, Chain, stay, cross, stepWords}
 use Rattle.paths.specs.ChainOrderLaws.{not-after-both}
 use Rattle.automaton.specs.LevelLaws.{Which, less, same, more, which}
 use Rattle.generations.specs.Generations.{Run, on, Longest, Over, Returns, FirstLoop, Numbered, no-record, not-in-use, in-use, Outcome, refused, numbers}
-use Rattle.generations.specs.Generations.{loop, GenerationsAre, no-loop, first-loop, argumentCauses, generationsCauses, unless}
+use Rattle.generations.specs.Generations.{loop, GenerationsAre, no-loop, first-loop, written, argumentCauses}
 use Rattle.generations.specs.Inner.{generationsOrder}
-use Rattle.generations.specs.Generations.{OutcomeIs, not-asked, answered}
+use Rattle.generations.specs.Generations.{OutcomeIs, not-asked, short, answered}
 
 -- ---- runs
 -- a link crossed forward
@@ -98,11 +99,16 @@ module _ {g : Graph} {ls : List ℕ} where
 -- ---- the outcome
 pub outcome-only : {b : Book} {ls : List ℕ} {work room : ℕ} {o p : Outcome} → OutcomeIs b ls work room o → OutcomeIs b ls work room p → o ≡ p
 outcome-only (not-asked {k = k} e) (not-asked {k = j} f) = let z : suc k ≡ suc j = sym e ∙ f in ap refused z
-outcome-only (not-asked e) (answered f a) = absurd (omega arith)
-outcome-only (answered e a) (not-asked f) = absurd (omega arith)
-outcome-only {b} {ls} {work} {room} (answered e a) (answered f c) =
-    ap (λ (o : Outcome). unless (firstNumber (generationsCauses b ls work room o)) o) (generations-only a c)
+outcome-only (not-asked e) (short f a h) = absurd (omega arith)
+outcome-only (not-asked e) (answered f a h) = absurd (omega arith)
+outcome-only (short e a h) (not-asked f) = absurd (omega arith)
+outcome-only (short e a h) (short f c k) = refl
+outcome-only (short e a h) (answered f c k) = absurd (omega (arith, h, k, ap (λ (o : Outcome). length (written o)) (generations-only a c)))
+outcome-only (answered e a h) (not-asked f) = absurd (omega arith)
+outcome-only (answered e a h) (short f c k) = absurd (omega (arith, h, k, ap (λ (o : Outcome). length (written o)) (generations-only a c)))
+outcome-only (answered e a h) (answered f c k) = generations-only a c
 
-pub generations-in-order : (b : Book) (ls : List ℕ) (work room : ℕ) (o : Outcome) → InOrder (generationsCauses b ls work room o) generationsOrder
-unfolding generationsCauses argumentCauses generationsOrder
+pub generations-in-order : (b : Book) (ls : List ℕ) (work room : ℕ) (o : Outcome)
+    → InOrder (argumentCauses b ls work ++ ((short-list, ltb room (length (written o))) ∷ [])) generationsOrder
+unfolding argumentCauses generationsOrder
 generations-in-order b ls work room o = same-cause (same-cause (same-cause none-left))

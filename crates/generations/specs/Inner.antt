@@ -22,6 +22,7 @@
 --   loopText ls     the text (a|c)+ of the labels ls, here of 0 and 2
 --   generationsOrder
 --                   the causes of a refusal in the order in which they are looked for
+--   unless k o      the number k of a cause if there is one, else the outcome o
 --   loopOutcome room ws
 --                   the loop of so many words, or 13 where there is less room
 --   Looped self m x work list list′ r
@@ -37,7 +38,7 @@ use mathlib.Core.List.{List, [], _∷_, _++_}
 use Prim.Native.Nat.{ℕ, zero, suc, _+_, _-_, _*_, _<_, _≤_}
 use lib.ListN.{length, getD}
 use lib.Dec.{leb, eqb, ltb}
-use Rattle.book.specs.Basics.{pick, bit, has}
+use Rattle.book.specs.Basics.{pick, bit, has, over}
 use Rattle.k2.specs.Bits.{digit, bitAt, onesBelow}
 use Rattle.k2.specs.PairSets.{Cells, closure}
 use Rattle.paths.specs.Grammar.{bar, open-group, close-group, plus-sign, letter-a}
@@ -50,7 +51,7 @@ use Rattle.paths.specs.Chains.{asked, Step, stepWords}
 use Rattle.paths.specs.Questions.{chainWork}
 use Rattle.register.specs.declared.Register.{Register}
 use Rattle.register.specs.Representation.{Represents}
-use Rattle.generations.specs.Generations.{FirstLoop, Outcome, unless, listAfter, loop}
+use Rattle.generations.specs.Generations.{FirstLoop, Outcome, refused, written, loop}
 use Rattle.generations.specs.declared.GenerationsAnswer.{GenerationsAnswer}
 use Rattle.generations.specs.Generating.{outcomeOf, generationsCounted}
 use Rattle.arcs.specs.Index.{indexWords, Indexed}
@@ -142,13 +143,18 @@ loopText ls = lettersAfter open-group ls ++ (close-group ∷ plus-sign ∷ [])
 unfoldable pub generationsOrder : List Cause
 generationsOrder = bad-label ∷ short-work ∷ short-list ∷ []
 
+-- the number of a cause if there is one, else the answer
+abbrev pub unless : ℕ → Outcome → Outcome
+unless zero o = o
+unless (suc k) o = refused (suc k)
+
 abbrev pub loopOutcome : ℕ → List ℕ → Outcome
 loopOutcome room ws = unless (firstNumber ((short-list, ltb room (length ws)) ∷ [])) (loop ws)
 
 pub record Looped (self : Register) (m x work : ℕ) (list list′ : List ℕ) (r : GenerationsAnswer) : Type 0 where
   pub contained : Contained (length list) (counted (generationsCounted r)) list list′ (generationsCounted r)
   pub first : (b : Book) → Represents self b → chainWork (b .n) ≤ work → (ls : List ℕ) → Contains m ls → (ss : List Step) → FirstLoop (asked b) ls x ss
-      → (outcomeOf r list′ ≡ loopOutcome (length list) (stepWords ss)) × (list′ ≡ listAfter (outcomeOf r list′) list)
+      → (outcomeOf r list′ ≡ loopOutcome (length list) (stepWords ss)) × (list′ ≡ over (written (outcomeOf r list′)) list)
 
 -- ---- what functions ask for
 pub record Visiting (links index : List ℕ) (y : ℕ) (depths : List ℕ) : Type 0 where

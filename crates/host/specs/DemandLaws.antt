@@ -1,5 +1,6 @@
 -- Demand 3 of the exported calls: the theorem. It rests on what the exported calls promise and on nothing else of the engine.
 --   exported-demand-3  of every dealings that keep to the contracts of the exported calls
+--   PairsTold, ChainTold  what is claimed of a question's number
 --   pairs-apart        a number told to a pair question after a history tells one answer of which the claim holds
 --   chain-apart        so of a chain question whose list has fewer than 2^32 words
 -- Assumes nothing.
@@ -8,7 +9,7 @@ use mathlib.Core.List.{List}
 use Prim.Native.Nat.{ℕ, suc, _+_, _≤_, _<_}
 use native.Mathlib.Omega.{arith}
 use lib.ListN.{length, take}
-use Rattle.book.specs.Basics.{bit, In, here, there, Rises, ended, rises}
+use Rattle.book.specs.Basics.{bit, over, In, here, there, Rises, ended, rises}
 use Rattle.book.specs.Causes.{maxRecords}
 use Rattle.book.specs.Book.{Book, Call, fresh, after}
 use Rattle.answers.specs.Answers.{counted, answered, overUnless, FirstPart}
@@ -24,21 +25,22 @@ use Rattle.register.specs.History.{Lent}
 use Rattle.chains.specs.Replies.{chainCounted}
 use Rattle.chains.specs.declared.ChainAnswer.{ChainAnswer}
 use Rattle.chains.specs.declared.ChainAnswer.the-variants.{Chain, NoChain, Refused as Unchained}
-use Rattle.engine.specs.Demand.{PairsClaim}
+use Rattle.engine.specs.Demand.{Question, Transcript, bookAfter, PairsClaim, ChainClaim}
+use Rattle.engine.specs.declared.Ends.{Ends}
 use Rattle.engine.specs.DemandLaws.{pairs-claim, chain-claim}
-use Rattle.host.specs.Host.{pastCounts, toldCounted, toldChain}
+use Rattle.host.specs.Host.{pastCounts, toldCounted, toldChain, Told}
 use Rattle.host.specs.HostLaws.{words-made, calls-past, total-book}
-use Rattle.host.specs.Demand.{Question, Dealings, bookThen, pairsHeard, chainHeard, PairsTold, ChainTold, LinksTold, Kept, ExportedDemand}
+use Rattle.host.specs.Demand.{Dealings, heard, Kept, ExportedDemand}
 
 links-told : (b : Book) (l : Lent) (k : ℕ) (ws : List ℕ) (a : Counted) → Linked ws (b .sheet) → FirstPart ws (l .before) (l .after) a → k ≡ toldCounted a
-    → LinksTold b l k
+    → (ws : List ℕ) × Linked ws (b .sheet) × (k ≡ length ws) × (l .after ≡ over (take (length (l .before)) ws) (l .before))
 unfolding answered overUnless
 links-told b l k ws a L h t = (ws, L, t ∙ ap toldCounted (h .answer), h .list)
 
-pub exported-demand-3 : (i : Dealings) → Kept i → ExportedDemand i
-exported-demand-3 i K =
-    let b = bookThen i in
-    let m = words-made (record { blank = i .state .before; opened = K .opened; opens = K .opens; told = i .told; lists = i .lists; calls = K .calls }) in
+pub exported-demand-3 : (t : Transcript ℕ ℕ) (i : Dealings) → Kept t i → ExportedDemand t i
+exported-demand-3 t i K =
+    let b = bookAfter t in
+    let m = words-made (K .made) in
     let r = m .2 .0 in
     let w = m .2 .1 in
     let R = m .2 .2 in
@@ -50,17 +52,23 @@ exported-demand-3 i K =
     record {
       answers = m .0;
       givens = m .1;
-      around = calls-past (K .calls) ∙ K .opens .past;
+      around = calls-past (K .made .calls) ∙ K .made .opens .past;
       size = K .size .kept r w .size b R;
       links = links-told b (i .links) (i .count) (take (l .1 .0 .count) (l .1 .0 .words)) (l .0) (l .1 .1 .linked b R) (l .1 .2) (l .2);
       locked = x .2 ∙ ap bit (x .1 .locked b R);
       withdrawn = y .2 ∙ ap bit (y .1 .withdrawn b R);
       total = total-book (K .total) b (m .2);
-      pairs = (p .0, pairs-claim R (pairsHeard (i .engine) (i .pairs) (p .0)) (p .1), p .2);
-      chain = (c .0, (c .1 .contained .fits, chain-claim R (chainHeard (i .from) (i .to) (i .chain) (c .0)) (c .1)), c .2);
+      pairs = (p .0, pairs-claim R (heard (t .pairs) (p .0)) (p .1), p .2);
+      chain = (c .0, (c .1 .contained .fits, chain-claim R (heard (t .chain) (c .0)) (c .1)), c .2);
     }
 
 -- ---- which answer a number tells
+abbrev pub PairsTold : Book → Question Engine ℕ → Type 0
+PairsTold b q = Told (λ a. PairsClaim b (heard q a)) toldCounted (q .answer)
+
+abbrev pub ChainTold : Book → Question Ends ℕ → Type 0
+ChainTold b q = Told (λ a. (counted (chainCounted a) ≤ length (q .list .before)) × ChainClaim b (heard q a)) toldChain (q .answer)
+
 -- of numbers below t that ascend there are no more than t
 rises-few : {m t : ℕ} {l : List ℕ} → Rises m l → m ≤ t → ((w : ℕ) → In w l → w < t) → m + length l ≤ t
 rises-few ended h below = omega arith
@@ -68,13 +76,13 @@ rises-few {m} {t} (rises {w = w} {l = l} g r) h below =
     let i = rises-few {m = suc w} {t = t} r (omega (arith, below w here)) (λ v j. below v (there j)) in
     omega (arith, i)
 
-module _ (n : ℕ) (few : n ≤ maxRecords) (cs : List Call) (d : Engine) (q : Question) where
+module _ (n : ℕ) (few : n ≤ maxRecords) (cs : List Call) (q : Question Engine ℕ) where
   below : {w : ℕ} (e : Expr) (x y : ℕ) → w ≡ pairWord x y → Has (asked (after (fresh n) cs)) e x y → w < 1048576
   below e x y p h =
       let I = history-inside n few cs in
       omega (arith, p, I .below x (h .1 .begins), I .below y (h .1 .ends), history-small n few cs)
 
-  pairs-few : (k : ℕ) → PairsClaim (after (fresh n) cs) (pairsHeard d q (Count k)) → k ≤ 1048576
+  pairs-few : (k : ℕ) → PairsClaim (after (fresh n) cs) (heard q (Count k)) → k ≤ 1048576
   pairs-few k C =
       let c = C .handed k refl in
       let l = c .2 .0 in
@@ -82,14 +90,14 @@ module _ (n : ℕ) (few : n ≤ maxRecords) (cs : List Call) (d : Engine) (q : Q
       let b = rises-few {t = 1048576} (c .2 .1 .ascending) (omega arith) (λ w i. let s = c .2 .1 .sound w i in below (c .0) (s .0) (s .1) (s .2) (s .3)) in
       omega (arith, e, b)
 
-  one-answer : (a a′ : Counted) → PairsClaim (after (fresh n) cs) (pairsHeard d q a) → PairsClaim (after (fresh n) cs) (pairsHeard d q a′)
+  one-answer : (a a′ : Counted) → PairsClaim (after (fresh n) cs) (heard q a) → PairsClaim (after (fresh n) cs) (heard q a′)
       → toldCounted a ≡ toldCounted a′ → a ≡ a′
   one-answer (Count j) (Count k) C D e = ap Count e
   one-answer (Count j) (Refused k) C D e = absurd (omega (arith, e, pairs-few j C))
   one-answer (Refused j) (Count k) C D e = absurd (omega (arith, e, pairs-few k D))
   one-answer (Refused j) (Refused k) C D e = let z : j ≡ k = omega (arith, e) in ap Refused z
 
-  pub pairs-apart : (s t : PairsTold (after (fresh n) cs) d q) → s .0 ≡ t .0
+  pub pairs-apart : (s t : PairsTold (after (fresh n) cs) q) → s .0 ≡ t .0
   pairs-apart s t = one-answer (s .0) (t .0) (s .1) (t .1) (sym (s .2) ∙ t .2)
 
 one-reply : (a a′ : ChainAnswer) → counted (chainCounted a) < pastCounts → counted (chainCounted a′) < pastCounts → toldChain a ≡ toldChain a′ → a ≡ a′
@@ -104,8 +112,8 @@ one-reply (Unchained j) (Chain k) g h e = absurd (omega (arith, e))
 one-reply (Unchained j) NoChain g h e = absurd (omega (arith, e))
 one-reply (Unchained j) (Unchained k) g h e = let z : j ≡ k = omega (arith, e) in ap Unchained z
 
-pub chain-apart : (b : Book) (x y : ℕ) (q : Question) → length (q .list .before) < pastCounts → (s t : ChainTold b x y q) → s .0 ≡ t .0
-chain-apart b x y q h s t =
+pub chain-apart : (b : Book) (q : Question Ends ℕ) → length (q .list .before) < pastCounts → (s t : ChainTold b q) → s .0 ≡ t .0
+chain-apart b q h s t =
     let f = s .1 .0 in
     let g = t .1 .0 in
     one-reply (s .0) (t .0) (omega (arith, f, h)) (omega (arith, g, h)) (sym (s .2) ∙ t .2)

@@ -6,16 +6,17 @@
 --   Calls cs ws vs ks ls
 --                   the calls cs, each given the words that the one before left, from the words ws on: the words vs at the end, the numbers ks, and the
 --                   lists ls that the closings up among them were lent. A list of edits that is made is its calls, each told 0; a refused one is no call
---   WordsMade n cs vs
---                   the exported calls cs, refused ones too, made the words vs, on words that asking for a fresh register of n records left
+--   WordsMade n cs ws vs ks ls
+--                   the exported calls cs, refused ones too, made the words vs, on words that asking for a fresh register of n records left, lent the words ws
 -- Assumes nothing: these are definitions.
 use mathlib.Core.Path.{_≡_}
 use mathlib.Core.List.{List, [], _∷_, _++_}
+use mathlib.Core.Bool.{false}
 use Prim.Native.Nat.{ℕ, _*_, _≤_, _<_}
 use lib.ListN.{length, drop, replicate}
 use Rattle.book.specs.Basics.{over}
-use Rattle.book.specs.Book.{Book, Edit, Call, edit, undo, close, given}
-use Rattle.register.specs.History.{Lent}
+use Rattle.book.specs.Book.{Book, Call, close, given}
+use Rattle.register.specs.History.{Lent, isClose}
 use Rattle.register.specs.Words.{Keeps, Edits}
 use Rattle.register.specs.declared.Register.{Register}
 use Rattle.register.specs.Drafts.{draftCalls}
@@ -30,10 +31,8 @@ pub record Renumbers (state numbers : Lent) (k : ℕ) : Type 0 where
 
 pub data Calls : List Call → List ℕ → List ℕ → List ℕ → List Lent → Type 0 where
   none : {ws : List ℕ} → Calls [] ws ws [] []
-  then-edit : {a : Edit} {cs : List Call} {ws us vs ks : List ℕ} {ls : List Lent} {k : ℕ} → Edits (edit a) ws us k → Calls cs us vs ks ls
-      → Calls (edit a ∷ cs) ws vs (k ∷ ks) ls
-  then-undo : {cs : List Call} {ws us vs ks : List ℕ} {ls : List Lent} {k : ℕ} → Edits undo ws us k → Calls cs us vs ks ls
-      → Calls (undo ∷ cs) ws vs (k ∷ ks) ls
+  then-call : {c : Call} {cs : List Call} {ws us vs ks : List ℕ} {ls : List Lent} {k : ℕ} → isClose c ≡ false → Edits c ws us k → Calls cs us vs ks ls
+      → Calls (c ∷ cs) ws vs (k ∷ ks) ls
   then-close : {cs : List Call} {ws us vs ks : List ℕ} {ls : List Lent} {k : ℕ} (l : Lent) → Renumbers (record { before = ws; after = us }) l k
       → Calls cs us vs ks ls → Calls (close (length (l .before)) ∷ cs) ws vs (k ∷ ks) (l ∷ ls)
   then-draft : {cs : List Call} {ws us vs ks : List ℕ} {ls : List Lent} {k : ℕ} (ds : List ℕ) → Applies ds ws us k → k < 2 * pastCounts
@@ -41,10 +40,7 @@ pub data Calls : List Call → List ℕ → List ℕ → List ℕ → List Lent 
   refused-draft : {cs : List Call} {ws us vs ks : List ℕ} {ls : List Lent} {k : ℕ} (ds : List ℕ) → Applies ds ws us k → 2 * pastCounts ≤ k
       → Calls cs us vs ks ls → Calls cs ws vs ks ls
 
-pub record WordsMade (n : ℕ) (cs : List Call) (vs : List ℕ) : Type 0 where
-  pub blank : List ℕ
+pub record WordsMade (n : ℕ) (cs : List Call) (ws vs ks : List ℕ) (ls : List Lent) : Type 0 where
   pub opened : List ℕ
-  pub opens : Freshens n blank opened 0
-  pub told : List ℕ
-  pub lists : List Lent
-  pub calls : Calls cs opened vs told lists
+  pub opens : Freshens n ws opened 0
+  pub calls : Calls cs opened vs ks ls

@@ -15,13 +15,13 @@ use Prim.Native.Nat.{ℕ, _*_, _<_}
 use native.Mathlib.Omega.{arith}
 use native.Mathlib.Decide.{decLt}
 use lib.ListN.{length, drop, replicate}
-use Rattle.book.specs.Book.{Book, Call, answer, next, fresh, answers, after, givens}
+use Rattle.book.specs.Book.{Book, Call, edit, undo, close, answer, next, fresh, answers, after, givens}
 use Rattle.answers.specs.Answers.{counted}
 use Rattle.answers.specs.declared.Counted.{Counted}
 use Rattle.answers.specs.declared.Counted.the-variants.{Count, Refused}
 use Rattle.paths.specs.Questions.{Outcome, Tells}
 use Rattle.register.specs.Calls.{answerNumber}
-use Rattle.register.specs.History.{Lent, CallsMade, Gives, none-given, more-given}
+use Rattle.register.specs.History.{Lent, CallsMade, Gives, none-given, more-given, isClose}
 use Rattle.register.specs.HistoryLaws.{number-answer, answered, kept, given-lent, after-append}
 use Rattle.register.specs.LaidLaws.{givens-append}
 use Rattle.register.specs.Questions.{totalAnswer}
@@ -34,7 +34,7 @@ use Rattle.register.specs.Drafts.{draftCalls, madeWords}
 use Rattle.register.specs.declared.DraftAnswer.{DraftAnswer}
 use Rattle.host.specs.Drafts.{Applies}
 use Rattle.host.specs.DraftLaws.{made-told}
-use Rattle.host.specs.Histories.{Calls, none, then-edit, then-undo, then-close, then-draft, refused-draft, WordsMade}
+use Rattle.host.specs.Histories.{Calls, none, then-call, then-close, then-draft, refused-draft, WordsMade}
 use Rattle.host.specs.Host.{KeepsBook, pastCounts, toldCounted, toldChain, Told, Asked, TellsTotal}
 
 pub edits-book : {c : Call} {ws vs : List ℕ} {k : ℕ} → Edits c ws vs k → (b : Book) → KeepsBook ws b → (k ≡ answer b c) × KeepsBook vs (next b c)
@@ -68,16 +68,17 @@ none-lent (more-given p q) e = absurd (let z : _≡_ {A = ℕ} 0 1 = cc in omega
 
 pub calls-book : {cs : List Call} {ws vs ks : List ℕ} {ls : List Lent} → Calls cs ws vs ks ls → (b : Book) → KeepsBook ws b
     → (ks ≡ answers b cs) × Gives (givens b cs) ls × KeepsBook vs (after b cs)
-unfolding answers after givens
+unfolding answers after givens isClose
 calls-book none b h = (refl, none-given, h)
-calls-book (then-edit e r) b h =
+calls-book (then-call {c = edit a} z e r) b h =
     let f = edits-book e b h in
     let g = calls-book r (next b _) (f .1) in
     ((λ i. f .0 i ∷ g .0 i), g .1, g .2)
-calls-book (then-undo e r) b h =
+calls-book (then-call {c = undo} z e r) b h =
     let f = edits-book e b h in
     let g = calls-book r (next b _) (f .1) in
     ((λ i. f .0 i ∷ g .0 i), g .1, g .2)
+calls-book (then-call {c = close room} z e r) b h = absurd (let y : _≡_ {A = ℕ} 0 1 = cc in omega arith)
 calls-book (then-close l e r) b h =
     let f = edits-book (e .edits) b h in
     let g = calls-book r (next b _) (f .1) in
@@ -94,15 +95,14 @@ calls-book {vs = vs} {ls = ls} (then-draft {cs = cs} ds a l r) b h =
 calls-book (refused-draft ds a l r) b h = calls-book r b (subst (λ (x : List ℕ). KeepsBook x b) (sym (a .refused l)) h)
 
 -- from a fresh register on: each number and list is the book's, and the words at the end keep the book after the calls
-pub words-made : {n : ℕ} {cs : List Call} {vs : List ℕ} (M : WordsMade n cs vs)
-    → (M .told ≡ answers (fresh n) cs) × Gives (givens (fresh n) cs) (M .lists) × KeepsBook vs (after (fresh n) cs)
+pub words-made : {n : ℕ} {cs : List Call} {ws vs ks : List ℕ} {ls : List Lent} → WordsMade n cs ws vs ks ls
+    → (ks ≡ answers (fresh n) cs) × Gives (givens (fresh n) cs) ls × KeepsBook vs (after (fresh n) cs)
 words-made {n} M = calls-book (M .calls) (fresh n) (M .opens .made refl)
 
 -- and no call touches the words past a register's
 pub calls-past : {cs : List Call} {ws vs ks : List ℕ} {ls : List Lent} → Calls cs ws vs ks ls → drop stateWords vs ≡ drop stateWords ws
 calls-past none = refl
-calls-past (then-edit e r) = calls-past r ∙ e .past
-calls-past (then-undo e r) = calls-past r ∙ e .past
+calls-past (then-call z e r) = calls-past r ∙ e .past
 calls-past (then-close l e r) = calls-past r ∙ e .edits .past
 calls-past (then-draft ds a l r) = calls-past r ∙ a .past
 calls-past (refused-draft ds a l r) = calls-past r ∙ a .past

@@ -10,7 +10,7 @@ use lib.ListN.{length}
 use Rattle.book.specs.Book.{Book, Call, isWithdrawn, fresh, after}
 use Rattle.paths.specs.Verdicts.{verdict}
 use Rattle.paths.specs.Questions.{Outcome, Tells}
-use Rattle.register.specs.History.{is-call}
+use Rattle.register.specs.History.{Lent, is-call}
 use Rattle.query.specs.Asking.{Asks}
 use Rattle.chains.specs.Replies.{BookReplies, Replies}
 use Rattle.engine.specs.Previews.{previewAnswer}
@@ -25,7 +25,7 @@ use Rattle.host.specs.Generations.{toldGenerations}
 use Rattle.host.specs.GenerationsLaws.{generations-book}
 use Rattle.host.specs.OffsetsLaws.{offsets-book}
 
-module _ {n : ℕ} {cs : List Call} {vs : List ℕ} (M : WordsMade n cs vs) where
+module _ {n : ℕ} {cs : List Call} {ws vs ks : List ℕ} {ls : List Lent} (M : WordsMade n cs ws vs ks ls) where
   kept : KeepsBook vs (after (fresh n) cs)
   kept = words-made M .2
 

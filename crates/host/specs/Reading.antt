@@ -4,19 +4,12 @@
 --                   are in all
 --   ReadsMarks before after r a
 --                   the marks of its records, from record 0 on, likewise
---   valuesBelow f n
---                   f 0, f 1, and so on up to f (n − 1)
---   totalsOf b, marksOf b
---                   the totals of the labels, and the marks of the records, of the book b
 -- Assumes nothing: these are definitions.
-use mathlib.Core.List.{List, [], _∷_, _++_}
-use Prim.Native.Nat.{ℕ, zero, suc}
+use mathlib.Core.List.{List}
+use Prim.Native.Nat.{ℕ}
 use lib.ListN.{take}
-use Rattle.book.specs.Causes.{labels}
-use Rattle.book.specs.Book.{Book, total}
 use Rattle.answers.specs.Answers.{FirstPart}
 use Rattle.answers.specs.declared.Counted.{Counted}
-use Rattle.register.specs.Marks.{markOf}
 use Rattle.register.specs.Questions.{Sized, MarkList, TotalList}
 use Rattle.register.specs.declared.Register.{Register}
 
@@ -25,13 +18,3 @@ ReadsTotals before after r a = (ts : List ℕ) × TotalList r ts × FirstPart ts
 
 abbrev pub ReadsMarks : List ℕ → List ℕ → Register → Counted → Type 0
 ReadsMarks before after r a = (n : ℕ) × (ms : List ℕ) × Sized r n × MarkList r ms × FirstPart (take n ms) before after a
-
-unfoldable pub valuesBelow : (ℕ → ℕ) → ℕ → List ℕ
-valuesBelow f zero = []
-valuesBelow f (suc n) = valuesBelow f n ++ (f n ∷ [])
-
-abbrev pub totalsOf : Book → List ℕ
-totalsOf b = valuesBelow (total (b .sheet)) labels
-
-abbrev pub marksOf : Book → List ℕ
-marksOf b = valuesBelow (markOf (b .sheet)) (b .n)

@@ -1,4 +1,8 @@
 -- What is read as one list says what the plain book says. Assumes nothing.
+--   valuesBelow f n
+--                   f 0, f 1, and so on up to f (n − 1)
+--   totalsOf b, marksOf b
+--                   the totals of the labels, and the marks of the records, of the book b
 --   values-length, values-at, values-only
 --                   the values of a function below a number: how many they are, each by its place, and that a list of so many with these values is theirs
 --   totals-book, marks-book
@@ -16,11 +20,22 @@ use Rattle.book.specs.Causes.{labels}
 use Rattle.book.specs.Book.{Book, Call, fresh, after, total}
 use Rattle.answers.specs.Answers.{FirstPart}
 use Rattle.answers.specs.declared.Counted.{Counted}
+use Rattle.register.specs.History.{Lent}
 use Rattle.register.specs.Marks.{markOf}
 use Rattle.host.specs.Host.{KeepsBook, toldCounted, Told, Asked}
 use Rattle.host.specs.Histories.{WordsMade}
 use Rattle.host.specs.HostLaws.{words-made}
-use Rattle.host.specs.Reading.{ReadsTotals, ReadsMarks, valuesBelow, totalsOf, marksOf}
+use Rattle.host.specs.Reading.{ReadsTotals, ReadsMarks}
+
+unfoldable pub valuesBelow : (ℕ → ℕ) → ℕ → List ℕ
+valuesBelow f zero = []
+valuesBelow f (suc n) = valuesBelow f n ++ (f n ∷ [])
+
+abbrev pub totalsOf : Book → List ℕ
+totalsOf b = valuesBelow (total (b .sheet)) labels
+
+abbrev pub marksOf : Book → List ℕ
+marksOf b = valuesBelow (markOf (b .sheet)) (b .n)
 
 module _ (f : ℕ → ℕ) where
   pub values-length : (n : ℕ) → length (valuesBelow f n) ≡ n
@@ -69,7 +84,7 @@ module _ {ws before after′ : List ℕ} {k : ℕ} (b : Book) (h : KeepsBook ws 
       values-only (markOf (b .sheet)) n (take n ms) g (λ i l. getD-take n ms i 0 l ∙ p .marks b (h .2) i) in
       (t .0, part-as (e ∙ ap (valuesBelow (markOf (b .sheet))) s) (t .1 .4), t .2)
 
-module _ {n : ℕ} {cs : List Call} {vs : List ℕ} (M : WordsMade n cs vs) {before after′ : List ℕ} {k : ℕ} where
+module _ {n : ℕ} {cs : List Call} {ws vs ks : List ℕ} {ls : List Lent} (M : WordsMade n cs ws vs ks ls) {before after′ : List ℕ} {k : ℕ} where
   pub totals-exported : Asked vs (ReadsTotals before after′) toldCounted before after′ k
       → Told (FirstPart (totalsOf (after (fresh n) cs)) before after′) toldCounted k
   totals-exported q = totals-book (after (fresh n) cs) (words-made M .2) q

@@ -1,8 +1,10 @@
 // The calls on trees.
 ghost use mathlib.Core.List.{[], _∷_};
 ghost use lib.ListN.{length};
-ghost use Rattle.k2.specs.PairSets.{union, intersection, difference, transpose, closure};
-ghost use Rattle.tree.specs.Calls.{senseOf, productSensed, Answered, Listed, treeOf, listOf, treeOfOne, treeOfTwo};
+ghost use Rattle.k2.specs.PairSets.{setOf, listed, union, intersection, difference, transpose, closure};
+ghost use Rattle.k2.specs.Trees.{treeWords};
+ghost use Rattle.k2.specs.TreeSets.{setIn};
+ghost use Rattle.tree.specs.Calls.{senseOf, productSensed, Answered, Listed, treeOfTwo};
 ghost use Rattle.host.specs.Host.{toldCounted, Told};
 use answers::told;
 
@@ -15,7 +17,7 @@ pub extern "C" fn dating_tree_make(
     work: &mut [u64],
 ) -> u64
     ensures { λ k. ⌜ Told
-        (Answered n (now (pairs .entry)) [] (length (now (work .entry))) (treeOf n (now (pairs .entry))) (now (tree .entry)) (now (tree .exit)))
+        (Answered n (now (pairs .entry)) [] (length (now (work .entry))) (treeWords n (setOf (now (pairs .entry)))) (now (tree .entry)) (now (tree .exit)))
         toldCounted k ⌝ }
 {
     told(engine::tree_make(n, pairs, tree, work))
@@ -29,7 +31,8 @@ pub extern "C" fn dating_tree_list(
     list: &mut [u32],
     work: &mut [u64],
 ) -> u64
-    ensures { λ k. ⌜ Told (Listed n (now (tree .entry) ∷ []) (length (now (work .entry))) (listOf n (now (tree .entry))) (now (list .entry)) (now (list .exit)))
+    ensures { λ k. ⌜ Told
+        (Listed n (now (tree .entry) ∷ []) (length (now (work .entry))) (listed n (setIn n (now (tree .entry)))) (now (list .entry)) (now (list .exit)))
         toldCounted k ⌝ }
 {
     told(engine::tree_list(n, tree, list, work))
@@ -113,8 +116,8 @@ pub extern "C" fn dating_tree_transpose(
     work: &mut [u64],
 ) -> u64
     ensures { λ k. ⌜ Told
-        (Answered n [] (now (a .entry) ∷ []) (length (now (work .entry))) (treeOfOne transpose n (now (a .entry))) (now (out .entry)) (now (out .exit)))
-        toldCounted k ⌝ }
+        (Answered n [] (now (a .entry) ∷ []) (length (now (work .entry)))
+        (treeWords n (transpose (setIn n (now (a .entry))))) (now (out .entry)) (now (out .exit))) toldCounted k ⌝ }
 {
     told(engine::tree_transpose(n, a, out, work))
 }
@@ -123,8 +126,8 @@ pub extern "C" fn dating_tree_transpose(
 #[no_mangle]
 pub extern "C" fn dating_tree_closure(n: usize, a: &[u64], out: &mut [u64], work: &mut [u64]) -> u64
     ensures { λ k. ⌜ Told
-        (Answered n [] (now (a .entry) ∷ []) (length (now (work .entry))) (treeOfOne (closure n) n (now (a .entry))) (now (out .entry)) (now (out .exit)))
-        toldCounted k ⌝ }
+        (Answered n [] (now (a .entry) ∷ []) (length (now (work .entry)))
+        (treeWords n (closure n (setIn n (now (a .entry))))) (now (out .entry)) (now (out .exit))) toldCounted k ⌝ }
 {
     told(engine::tree_closure(n, a, out, work))
 }

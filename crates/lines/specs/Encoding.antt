@@ -6,12 +6,10 @@
 -- Assumes nothing: these are definitions.
 use mathlib.Core.Path.{_≡_}
 use mathlib.Core.List.{List, [], _∷_, _++_}
-use mathlib.Core.Bool.{Bool}
+use mathlib.Core.Bool.{Bool, false}
 use Prim.Native.Nat.{ℕ, suc, _+_}
-use lib.ListN.{take}
-use Rattle.answers.specs.Written.{Wrote}
 use Rattle.session.specs.Program.{frameOf, maxFrame}
-use Rattle.session.specs.Runs.{End, ended, unsent, spent, allSent, mostTurns}
+use Rattle.session.specs.Runs.{End, ended, unsent, spent, mostTurns}
 use Rattle.lines.specs.Typed.{Typed, nothing, framed, typed}
 
 unfoldable pub sent : Typed → List ℕ
@@ -24,14 +22,13 @@ frameRoom = maxFrame + 2
 -- ---- the program's loop
 pub data Sends : ℕ → List (List ℕ) → List ℕ → End → Type 0 where
   no-turns : Sends 0 [] [] spent
-  last-line : {n w : ℕ} {l out out′ : List ℕ} → Wrote 0 (sent (typed l)) out out′ w → Sends (suc n) (l ∷ []) (take w out′) ended
-  not-sent : {n w : ℕ} {l out out′ : List ℕ} → Wrote 0 (sent (typed l)) out out′ w → Sends (suc n) (l ∷ []) (take w out′) unsent
-  one-more : {n w : ℕ} {l o out out′ : List ℕ} {ls : List (List ℕ)} {e : End} → Wrote 0 (sent (typed l)) out out′ w
-      → Sends n ls o e → Sends (suc n) (l ∷ ls) (take w out′ ++ o) e
+  last-line : {n : ℕ} {l : List ℕ} → Sends (suc n) (l ∷ []) (sent (typed l)) ended
+  not-sent : {n : ℕ} {l : List ℕ} → Sends (suc n) (l ∷ []) (sent (typed l)) unsent
+  one-more : {n : ℕ} {l o : List ℕ} {ls : List (List ℕ)} {e : End} → Sends n ls o e → Sends (suc n) (l ∷ ls) (sent (typed l) ++ o) e
 
 pub record SentAll (all : Bool) : Type 0 where
   pub lines : List (List ℕ)
   pub output : List ℕ
   pub end : End
   pub sends : Sends mostTurns lines output end
-  pub tells : all ≡ allSent end
+  pub tells : (all ≡ false → end ≡ unsent) × (end ≡ unsent → all ≡ false)

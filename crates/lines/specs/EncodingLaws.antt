@@ -20,14 +20,14 @@ use Rattle.book.specs.Causes.{broken-frame, unknown-kind}
 use Rattle.paths.specs.Grammar.{Verdict}
 use Rattle.paths.specs.Chains.{Reply}
 use Rattle.register.specs.History.{kindCall}
-use Rattle.session.specs.Program.{number16, twoBytes, frameOf, Frame, asks, faulty, opening, pairs, chain, totalling, shapeOf, fits, called, taken, decode}
-use Rattle.session.specs.Program.{Session, nextSession, Right, printed, listLeft, frameIn, Run, ended}
-use Rattle.session.specs.RunLaws.{framed-as}
+use Rattle.session.specs.Program.{number16, twoBytes, frameOf, Frame, asks, faulty, opens, pairs, chain, totalling, shapeOf, fits, called, taken, decode}
+use Rattle.session.specs.Program.{Session, nextSession, Right, printing, Run, ended}
+use Rattle.session.specs.StepLaws.{frameIn, framed-as}
 use Rattle.session.specs.declared.Shape.{Shape}
 use Rattle.session.specs.declared.Shape.the-variants.{Empty, Record, Link, Size, Label, Expression, Ends, Unknown}
-use Rattle.lines.specs.Typed.{Typed, nothing, framed, unknown, fitting, word, rest, skip, empty, isNumber, numberOf, isLabel, labelOf, text, maxLine}
-use Rattle.lines.specs.Typed.{hash, kindNamed, argued, requested, begun, typed}
-use Rattle.lines.specs.TypedLaws.{length-text}
+use Rattle.lines.specs.Typed.{Typed, nothing, framed, fitting, word, rest, skip, empty, isNumber, numberOf, isLabel, labelOf, text, maxLine}
+use Rattle.lines.specs.Typed.{hash, kindNamed, argued, begun, typed}
+use Rattle.lines.specs.TypedLaws.{requested, length-text}
 use Rattle.lines.specs.Encoding.{sent}
 use Rattle.lines.specs.TypedRuns.{maxBody, sentAll, TypedRun, no-lines, silent-line, request-line}
 
@@ -69,7 +69,7 @@ choose true t u x y = x
 choose false t u x y = y
 
 begun-sends : (s : List ℕ) → Sends (begun s)
-unfolding begun requested
+unfolding begun
 begun-sends [] = none
 begun-sends (c ∷ s) = choose (eqb c hash) _ _ none (argued-sends _ _ _)
 
@@ -88,7 +88,7 @@ fitted fits f = pick fits f (faulty broken-frame)
 unfoldable pub meant : Shape → ℕ → List ℕ → Frame
 meant Empty k r = fitted (empty r) (called (kindCall k 0 0 0))
 meant Record k r = fitted (isNumber (word r) && empty (rest r)) (called (kindCall k (numberOf (word r)) 0 0))
-meant Size k r = fitted (isNumber (word r) && empty (rest r)) (asks (opening (numberOf (word r))))
+meant Size k r = fitted (isNumber (word r) && empty (rest r)) (opens (numberOf (word r)))
 meant Link k r =
     let x = word r in
     let l = word (rest r) in
@@ -107,7 +107,7 @@ unfolding saying decode shapeOf fits
 fitting-taken true k s f e = ap (λ (g : Frame). g ∷ []) e
 fitting-taken false k s f e = refl
 
-unknown-taken : saying unknown ≡ faulty unknown-kind ∷ []
+unknown-taken : saying (framed 0 []) ≡ faulty unknown-kind ∷ []
 unfolding saying decode shapeOf fits taken
 unknown-taken = refl
 
@@ -125,8 +125,8 @@ argued-taken Record k r e =
     (shape-taken Record k (twoBytes x) e refl ∙ ap (λ (n : ℕ). called (kindCall k n 0 0)) (both x))
 argued-taken Size k r e =
     let x = numberOf (word r) in
-    fitting-taken (isNumber (word r) && empty (rest r)) k (twoBytes x) (asks (opening x))
-    (shape-taken Size k (twoBytes x) e refl ∙ ap (λ (n : ℕ). asks (opening n)) (both x))
+    fitting-taken (isNumber (word r) && empty (rest r)) k (twoBytes x) (opens x)
+    (shape-taken Size k (twoBytes x) e refl ∙ ap (λ (n : ℕ). opens n) (both x))
 argued-taken Link k r e =
     let third = rest (rest r) in
     let x = numberOf (word r) in
@@ -149,7 +149,6 @@ argued-taken Ends k r e =
 argued-taken Unknown k r e = unknown-taken
 
 pub decode-line : (w r : List ℕ) → saying (requested w r) ≡ meant (shapeOf (kindNamed w)) (kindNamed w) r ∷ []
-unfolding requested
 decode-line w r = argued-taken (shapeOf (kindNamed w)) (kindNamed w) r refl
 
 -- ---- frames
@@ -177,8 +176,8 @@ frame-out n a b s i h =
 
 -- the bytes i after a frame of kind c with the body b
 run-frame : (work : ℕ) (s s′ : Session) (k k′ : List ℕ) (c : ℕ) (b i o : List ℕ) (v : Verdict) (u : Reply) → length b ≤ maxBody
-    → Right s (decode c b) v u → Run work (nextSession s (decode c b)) (listLeft work k s (decode c b) v u) i o s′ k′
-    → Run work s k (frameOf c b ++ i) (printed work (length k) s (decode c b) v u ++ o) s′ k′
+    → Right s (decode c b) v u → Run work (nextSession s (decode c b)) (printing work k s (decode c b) v u .1) i o s′ k′
+    → Run work s k (frameOf c b ++ i) (printing work k s (decode c b) v u .0 ++ o) s′ k′
 unfolding frameOf twoBytes
 run-frame work s s′ k k′ c b i o v u short right run =
     let n = length b + 2 in

@@ -16,8 +16,8 @@ use native.Mathlib.Numerals.{add-one}
 use native.Mathlib.Omega.{arith}
 use lib.ListN.{length, drop, getD, drop-of-length-le}
 use lib.Seq.{drop-cons}
-use lib.Dec.{leb, ltb}
-use borrow.Author.Tests.{le-leb, lt-leb, lt-ltb, le-ltb, leb-true, ltb-true}
+use lib.Dec.{eqb, leb, ltb}
+use borrow.Author.Tests.{eq-eqb, ne-eqb, le-leb, lt-leb, lt-ltb, le-ltb, leb-true, ltb-true}
 use Rattle.book.specs.Causes.{labels}
 use Rattle.report.specs.Report.{figure-0, letter-a}
 use Rattle.lines.specs.Typed.{figure, allFigures, numberAfter, numberOf, isNumber, isLabel, labelOf, maxNumber}
@@ -38,14 +38,16 @@ read-not false n h k = refl
 -- a number and a label are below what stands for none
 pub number-small : (w : List ℕ) → isNumber w ≡ true → numberOf w < unfit
 unfolding isNumber
-number-small [] h = absurd (let z : _≡_ {A = ℕ} 0 1 = cc in omega arith)
-number-small (c ∷ w) h = omega (arith, leb-true (numberOf (c ∷ w)) maxNumber (and-right (allFigures (c ∷ w)) (leb (numberOf (c ∷ w)) maxNumber) h))
+number-small w h =
+    let rest = and-right (ltb 0 (length w)) (allFigures w && leb (numberOf w) maxNumber) h in
+    omega (arith, leb-true (numberOf w) maxNumber (and-right (allFigures w) (leb (numberOf w) maxNumber) rest))
 
 pub label-small : (w : List ℕ) → isLabel w ≡ true → labelOf w < labels
 unfolding isLabel labelOf
-label-small [] h = omega arith
-label-small (c ∷ []) h = omega (arith, ltb-true c (letter-a + labels) (and-right (leb letter-a c) (ltb c (letter-a + labels)) h))
-label-small (c ∷ d ∷ w) h = absurd (let z : _≡_ {A = ℕ} 0 1 = cc in omega arith)
+label-small w h =
+    let c = getD w 0 0 in
+    let rest = and-right (eqb (length w) 1) (leb letter-a c && ltb c (letter-a + labels)) h in
+    omega (arith, ltb-true c (letter-a + labels) (and-right (leb letter-a c) (ltb c (letter-a + labels)) rest))
 
 -- ---- numbers
 -- the rest w of a number, of which v is read
@@ -54,13 +56,11 @@ readAfter v w = read (allFigures w && leb (numberAfter v w) maxNumber) (numberAf
 
 pub number-begun : (w : List ℕ) → 0 < length w → readAfter 0 w ≡ read (isNumber w) (numberOf w)
 unfolding readAfter isNumber numberOf
-number-begun [] h = absurd (omega arith)
-number-begun (c ∷ w) h = refl
+number-begun w h = rw (lt-ltb 0 (length w) h)
 
 pub number-empty : (w : List ℕ) → length w ≡ 0 → read (isNumber w) (numberOf w) ≡ unfit
 unfolding read isNumber
-number-empty [] h = refl
-number-empty (c ∷ w) h = absurd (omega arith)
+number-empty w h = rw (le-ltb 0 (length w) (omega arith))
 
 pub number-next : (v : ℕ) (w : List ℕ) (i : ℕ) → i < length w → figure-0 ≤ getD w i 0 → getD w i 0 < figure-0 + 10
     → readAfter (v * 10 + (getD w i 0 - figure-0)) (drop (i + 1) w) ≡ readAfter v (drop i w)
@@ -95,28 +95,20 @@ number-none v w i h k = rw (drop-of-length-le w h, le-leb v maxNumber k)
 -- ---- labels
 pub label-size : (w : List ℕ) → (length w ≡ 1 → ⊥) → isLabel w ≡ false
 unfolding isLabel
-label-size [] h = refl
-label-size (c ∷ []) h = absurd (h refl)
-label-size (c ∷ d ∷ w) h = refl
+label-size w h = rw (ne-eqb (length w) 1 h)
 
 -- a word of one byte, by that byte
 pub label-below : (w : List ℕ) → length w ≡ 1 → getD w 0 0 < letter-a → isLabel w ≡ false
 unfolding isLabel
-label-below [] h l = refl
-label-below (c ∷ []) h l = rw (lt-leb letter-a c l)
-label-below (c ∷ d ∷ w) h l = refl
+label-below w h l = rw (eq-eqb (length w) 1 h, lt-leb letter-a (getD w 0 0) l)
 
 pub label-above : (w : List ℕ) → length w ≡ 1 → letter-a + labels ≤ getD w 0 0 → isLabel w ≡ false
 unfolding isLabel
-label-above [] h l = refl
-label-above (c ∷ []) h l =
-    let k : letter-a ≤ c = omega arith in
-    rw (le-leb letter-a c k, le-ltb c (letter-a + labels) l)
-label-above (c ∷ d ∷ w) h l = refl
+label-above w h l =
+    let k : letter-a ≤ getD w 0 0 = omega arith in
+    rw (eq-eqb (length w) 1 h, le-leb letter-a (getD w 0 0) k, le-ltb (getD w 0 0) (letter-a + labels) l)
 
 pub label-is : (w : List ℕ) → length w ≡ 1 → letter-a ≤ getD w 0 0 → getD w 0 0 < letter-a + labels
     → read (isLabel w) (labelOf w) ≡ getD w 0 0 - letter-a
 unfolding read isLabel labelOf
-label-is [] h l m = absurd (omega arith)
-label-is (c ∷ []) h l m = rw (le-leb letter-a c l, lt-ltb c (letter-a + labels) m)
-label-is (c ∷ d ∷ w) h l m = absurd (omega arith)
+label-is w h l m = rw (eq-eqb (length w) 1 h, le-leb letter-a (getD w 0 0) l, lt-ltb (getD w 0 0) (letter-a + labels) m)

@@ -26,8 +26,8 @@ use Rattle.book.specs.Causes.{labels}
 use Rattle.session.specs.Program.{twoBytes}
 use Rattle.session.specs.declared.Shape.the-variants.{Empty, Record, Link, Label, Ends}
 use Rattle.lines.specs.Typed.{word, rest, skip, empty, isNumber, numberOf, isLabel, labelOf, text, hash, maxLine, nothing, framed}
-use Rattle.lines.specs.Typed.{misfit, argued, requested, begun, typed}
-use Rattle.lines.specs.TypedLaws.{and-false}
+use Rattle.lines.specs.Typed.{misfit, argued, begun, typed}
+use Rattle.lines.specs.TypedLaws.{requested, and-false}
 use Rattle.lines.specs.Read.{unfit, read}
 use Rattle.lines.specs.ReadLaws.{read-fits, read-not, number-small, label-small}
 
@@ -79,13 +79,11 @@ label-under w n e h = let f = label-fits w n e h in omega (arith, f .is, label-s
 
 empty-none : (s : List ℕ) → length s ≤ 0 → empty s ≡ true
 unfolding empty
-empty-none [] h = refl
-empty-none (c ∷ s) h = absurd (omega arith)
+empty-none s h = rw (eq-eqb (length s) 0 (omega arith))
 
 empty-some : (s : List ℕ) → 0 < length s → empty s ≡ false
 unfolding empty
-empty-some [] h = absurd (omega arith)
-empty-some (c ∷ s) h = refl
+empty-some s h = rw (ne-eqb (length s) 0 (λ e. omega (arith, e)))
 
 -- ---- one number
 module _ (s : List ℕ) {n : ℕ} {u : List ℕ} (is-n : n ≡ read (isNumber (word s)) (numberOf (word s))) (is-u : u ≡ rest s) (k : ℕ) where

@@ -14,20 +14,19 @@
 --   isLabel w, labelOf w  whether the word w is one letter, a to z; its label, 0 to 25
 --   text s                what is sent of a question's text: s without the blanks at its end, at most 1,018 bytes
 --   Typed                 what a line says: nothing, or a frame of a kind with a body
---   unknown, misfit       the frame of a first word that is none of the requests, of kind 0, to which the program answers 15; and of arguments that do not
---                         fit, an undo with a body, to which it answers 14
+--   misfit                the frame of arguments that do not fit, an undo with a body, to which the program answers 14
 --   fitting b k s         the frame of kind k with the body s, if the arguments fit
 --   kindNamed w           the kind of the request that the word w names, or 0
 --   argued h k r          the frame of kind k, whose body has the shape h, for the bytes r after its word: none; a number and no more; FROM LETTER TO and no
---                         more; LETTER and no more; EXPRESSION; FROM TO EXPRESSION
---   requested w r         what the word w says with the bytes r after it
+--                         more; LETTER and no more; EXPRESSION; FROM TO EXPRESSION; a first word that is none of the requests has a frame of kind 0, to
+--                         which the program answers 15
 --   begun s               what the bytes s say from the first word on: nothing, a comment, or a request
 --   typed s               what the line s says
 -- Assumes nothing: these are definitions.
 use mathlib.Core.List.{List, [], _∷_, _++_, reverse}
 use mathlib.Core.Bool.{Bool, true, false, _&&_, _||_}
 use Prim.Native.Nat.{ℕ, _+_, _-_, _*_}
-use lib.ListN.{length, take, drop}
+use lib.ListN.{length, take, drop, getD}
 use lib.Dec.{leb, ltb, eqb}
 use Rattle.book.specs.Basics.{pick}
 use Rattle.book.specs.Causes.{labels}
@@ -82,8 +81,7 @@ sameBytes (c ∷ s) [] = false
 sameBytes (c ∷ s) (d ∷ t) = eqb c d && sameBytes s t
 
 unfoldable pub empty : List ℕ → Bool
-empty [] = true
-empty (c ∷ s) = false
+empty s = eqb (length s) 0
 
 -- ---- arguments
 unfoldable pub figure : ℕ → Bool
@@ -101,17 +99,13 @@ unfoldable pub numberOf : List ℕ → ℕ
 numberOf w = numberAfter 0 w
 
 unfoldable pub isNumber : List ℕ → Bool
-isNumber [] = false
-isNumber (c ∷ w) = allFigures (c ∷ w) && leb (numberOf (c ∷ w)) maxNumber
+isNumber w = ltb 0 (length w) && (allFigures w && leb (numberOf w) maxNumber)
 
 unfoldable pub isLabel : List ℕ → Bool
-isLabel [] = false
-isLabel (c ∷ []) = leb letter-a c && ltb c (letter-a + labels)
-isLabel (c ∷ d ∷ w) = false
+isLabel w = eqb (length w) 1 && (leb letter-a (getD w 0 0) && ltb (getD w 0 0) (letter-a + labels))
 
 unfoldable pub labelOf : List ℕ → ℕ
-labelOf [] = 0
-labelOf (c ∷ w) = c - letter-a
+labelOf w = getD w 0 0 - letter-a
 
 unfoldable pub text : List ℕ → List ℕ
 text s = take maxText (trim s)
@@ -120,9 +114,6 @@ text s = take maxText (trim s)
 pub data Typed : Type 0 where
   nothing : Typed
   framed : ℕ → List ℕ → Typed
-
-abbrev pub unknown : Typed
-unknown = framed 0 []
 
 abbrev pub misfit : Typed
 misfit = framed undoKind (0 ∷ [])
@@ -160,14 +151,11 @@ argued Ends k r =
     let x = word r in
     let y = word (rest r) in
     fitting (isNumber x && isNumber y) k (twoBytes (numberOf x) ++ (twoBytes (numberOf y) ++ text (rest (rest r))))
-argued Unknown k r = unknown
-
-unfoldable pub requested : List ℕ → List ℕ → Typed
-requested w r = argued (shapeOf (kindNamed w)) (kindNamed w) r
+argued Unknown k r = framed 0 []
 
 unfoldable pub begun : List ℕ → Typed
 begun [] = nothing
-begun (c ∷ s) = pick (eqb c hash) nothing (requested (word (c ∷ s)) (rest (c ∷ s)))
+begun (c ∷ s) = pick (eqb c hash) nothing (let k = kindNamed (word (c ∷ s)) in argued (shapeOf k) k (rest (c ∷ s)))
 
 unfoldable pub typed : List ℕ → Typed
 typed s = pick (ltb maxLine (length s)) misfit (begun (skip s))

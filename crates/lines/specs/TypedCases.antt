@@ -10,10 +10,10 @@ use Rattle.book.specs.Causes.{broken-frame, unknown-kind}
 use Rattle.book.specs.Book.{edit, undo, add, remove, lock, unlock, withdraw, reinstate}
 use Rattle.register.specs.History.{kindCall}
 use Rattle.report.specs.Report.{bytes}
-use Rattle.session.specs.Program.{number16, twoBytes, Request, Frame, asks, faulty, opening, call, pairs, chain, totalling, shapeOf, fits, called, taken}
+use Rattle.session.specs.Program.{number16, twoBytes, Request, Frame, asks, faulty, opens, call, pairs, chain, totalling, shapeOf, fits, called, taken}
 use Rattle.session.specs.Program.{decode}
 use Rattle.lines.specs.Typed.{blank, skip, trim, word, rest, sameBytes, empty, figure, allFigures, numberAfter, numberOf, isNumber, isLabel, labelOf}
-use Rattle.lines.specs.Typed.{text, kindNamed, argued, requested, begun, typed}
+use Rattle.lines.specs.Typed.{text, kindNamed, argued, begun, typed}
 use Rattle.lines.specs.EncodingLaws.{saying}
 
 pub record Case : Type 0 where
@@ -34,7 +34,7 @@ silent t = record { line = t; what = [] }
 
 unfoldable pub table : List Case
 table =
-    request "open 4" (opening 4) ∷
+    record { line = "open 4"; what = opens 4 ∷ [] } ∷
     request "add 0 a 1" (call (edit (add (record { from = 0; label = 0; to = 1 })))) ∷
     request "  remove   65535 z 0  " (call (edit (remove (record { from = 65535; label = 25; to = 0 })))) ∷
     request "lock 1" (call (edit (lock 1))) ∷
@@ -76,7 +76,7 @@ pub data Hold : List Case → Type 0 where
 
 pub typed-cases : Hold table
 unfolding table bytes blank skip trim word rest sameBytes empty figure allFigures numberAfter numberOf isNumber isLabel labelOf text kindNamed
-    argued requested begun typed number16 twoBytes shapeOf fits kindCall called taken decode saying
+    argued begun typed number16 twoBytes shapeOf fits kindCall called taken decode saying
 typed-cases =
     also refl (also refl (also refl (also refl (also refl (also refl (also refl (also refl (also refl (also refl (also refl (also refl (also refl
     (also refl (also refl (also refl (also refl (also refl (also refl (also refl (also refl (also refl (also refl (also refl (also refl (also refl

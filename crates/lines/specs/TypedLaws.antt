@@ -1,4 +1,5 @@
 -- Laws of the words of a line.
+--   requested w r  what the word w says with the bytes r after it
 --   and-left, and-right, and-false
 --                  of two tests
 --   skip-on, skip-at, skip-none
@@ -26,7 +27,13 @@ use lib.Seq.{drop-cons, take-suc}
 use lib.Dec.{eqb, ltb}
 use borrow.Author.Tests.{eq-eqb, ne-eqb, eqb-true, le-leb, lt-ltb, ltb-true, ltb-false}
 use Rattle.report.specs.Report.{figures, decimal, figure-0}
+use Rattle.session.specs.Program.{shapeOf}
 use Rattle.lines.specs.Typed.{blank, skip, trim, word, sameBytes, text, maxText, figure, allFigures, numberAfter, numberOf, isNumber, maxNumber}
+use Rattle.lines.specs.Typed.{Typed, kindNamed, argued}
+
+-- what the word w says with the bytes r after it
+abbrev pub requested : List ℕ → List ℕ → Typed
+requested w r = argued (shapeOf (kindNamed w)) (kindNamed w) r
 
 -- ---- two tests
 pub and-left : (a b : Bool) → (a && b) ≡ true → a ≡ true
@@ -205,8 +212,7 @@ spells-figures (suc f) n h = spells-figures-by f n (ltb n 10) refl (λ k. spells
 
 is-number : (w : List ℕ) → 0 < length w → allFigures w ≡ true → numberOf w ≤ maxNumber → isNumber w ≡ true
 unfolding isNumber
-is-number [] h k l = absurd (omega arith)
-is-number (c ∷ w) h k l = rw (k, le-leb (numberOf (c ∷ w)) maxNumber l)
+is-number w h k l = rw (lt-ltb 0 (length w) h, k, le-leb (numberOf w) maxNumber l)
 
 pub decimal-typed : (n : ℕ) → n ≤ maxNumber → (isNumber (decimal n) ≡ true) × (numberOf (decimal n) ≡ n)
 unfolding decimal

@@ -8,10 +8,9 @@
 use mathlib.Core.Path.{_≡_}
 use mathlib.Core.List.{List, [], _∷_, _++_}
 use Prim.Native.Nat.{ℕ, _-_}
-use lib.ListN.{length}
 use Rattle.paths.specs.Grammar.{Verdict}
 use Rattle.paths.specs.Chains.{Reply}
-use Rattle.session.specs.Program.{minFrame, maxFrame, decode, Session, nextSession, Right, printed, listLeft}
+use Rattle.session.specs.Program.{minFrame, maxFrame, decode, Session, nextSession, Right, printing}
 use Rattle.lines.specs.Typed.{nothing, framed, typed}
 use Rattle.lines.specs.Encoding.{sent}
 
@@ -28,5 +27,5 @@ pub data TypedRun (work : ℕ) : Session → List ℕ → List (List ℕ) → Li
       → TypedRun work s k ls o s′ k′ → TypedRun work s k (l ∷ ls) o s′ k′
   -- answered as its frame is
   request-line : {s s′ : Session} {k k′ : List ℕ} {ls : List (List ℕ)} {o : List ℕ} (l : List ℕ) (c : ℕ) (b : List ℕ) (v : Verdict) (u : Reply)
-      → typed l ≡ framed c b → Right s (decode c b) v u → TypedRun work (nextSession s (decode c b)) (listLeft work k s (decode c b) v u) ls o s′ k′
-      → TypedRun work s k (l ∷ ls) (printed work (length k) s (decode c b) v u ++ o) s′ k′
+      → typed l ≡ framed c b → Right s (decode c b) v u → TypedRun work (nextSession s (decode c b)) (printing work k s (decode c b) v u .1) ls o s′ k′
+      → TypedRun work s k (l ∷ ls) (printing work k s (decode c b) v u .0 ++ o) s′ k′

@@ -33,7 +33,8 @@ use Rattle.rowpairs.specs.RelatingLaws.{relating-refused, relating-made}
 use Rattle.rowpairs.specs.declared.Related.{Related}
 use Rattle.query.specs.AskingLaws.{asked-enough, handed-tells, whole-contained}
 use Rattle.pages.specs.Pages.{pages}
-use Rattle.pages.specs.PageCalls.{printOutcome, Prints, Content, listing, nothing, are-pages, no-pages, readOutcome, ReadsPages}
+use Rattle.pages.specs.PageCalls.{printOutcome, Prints, ReadsPages}
+use Rattle.pages.specs.PageCallLaws.{Content, listing, nothing, are-pages, no-pages, readOutcome, reads-by}
 use Rattle.pages.specs.PageCallLaws.{print-refused, print-asked, read-refused, read-broken, read-short}
 use Rattle.pages.specs.PageCallLaws.{read-filled}
 use Rattle.pages.specs.Lines.{held, pairsHeld, wordsBefore, Judged, good, bad}
@@ -79,7 +80,11 @@ pub reads-refused : (text bytes list : List ℕ) (k : ℕ) → readAnswer (verdi
 unfolding countOf listAfter
 reads-refused text bytes list k e =
     let o = read-refused (verdict text) k nothing (length list) e in
-    record { content = nothing; holds = λ x v. absurd (not-faulty x v e); tells = record { answer = rw o refl; list = rw o refl } }
+    reads-by {text = text} {bytes = bytes} {before = list} {after = list} {a = Refused k} (record {
+      content = nothing;
+      holds = λ x v. absurd (not-faulty x v e);
+      tells = record { answer = rw o refl; list = rw o refl };
+    })
 
 module _ (text bytes list : List ℕ) (e : Expr) (v : verdict text ≡ accepted e) where
   outcome : (c : Content) {o : Outcome} → readOutcome (accepted e) c (length list) ≡ o → readOutcome (verdict text) c (length list) ≡ o
@@ -90,7 +95,11 @@ module _ (text bytes list : List ℕ) (e : Expr) (v : verdict text ≡ accepted 
   reads-broken q (good l s P) = absurd (let z : _≡_ {A = ℕ} 0 1 = cc in omega arith)
   reads-broken q (bad n) =
       let o = outcome nothing (read-broken e (length list)) in
-      record { content = nothing; holds = λ x u. no-pages n; tells = record { answer = rw o refl; list = rw o refl } }
+      reads-by {text = text} {bytes = bytes} {before = list} {after = list} {a = Refused 14} (record {
+        content = nothing;
+        holds = λ x u. no-pages n;
+        tells = record { answer = rw o refl; list = rw o refl };
+      })
 
   pub reads-short : {j : Judgement} {k : ℕ} → j ≡ Listing k → Judged text bytes j → length list < k → ReadsPages text bytes list list (Refused 13)
   unfolding countOf listAfter
@@ -98,7 +107,11 @@ module _ (text bytes list : List ℕ) (e : Expr) (v : verdict text ≡ accepted 
   reads-short {k = k} q (good l s P) h =
       let z : length l ≡ k = cc in
       let o = outcome (listing l) (read-short e l (length list) (omega arith)) in
-      record { content = listing l; holds = λ x u. are-pages P; tells = record { answer = rw o refl; list = rw o refl } }
+      reads-by {text = text} {bytes = bytes} {before = list} {after = list} {a = Refused 13} (record {
+        content = listing l;
+        holds = λ x u. are-pages P;
+        tells = record { answer = rw o refl; list = rw o refl };
+      })
 
   pub reads-pairs : {j : Judgement} {k : ℕ} {after : List ℕ} → j ≡ Listing k → Judged text bytes j → k ≤ length list
       → after ≡ over (wordsBefore bytes (length bytes / 73)) list → ReadsPages text bytes list after (Count k)
@@ -107,11 +120,11 @@ module _ (text bytes list : List ℕ) (e : Expr) (v : verdict text ≡ accepted 
   reads-pairs {k = k} {after} q (good l s P) h w =
       let z : length l ≡ k = cc in
       let o = outcome (listing l) (read-filled e l (length list) (omega arith)) in
-      record {
+      reads-by {text = text} {bytes = bytes} {before = list} {after = after} {a = Count k} (record {
         content = listing l;
         holds = λ x u. are-pages P;
         tells = record { answer = rw o (ap Count (sym z)); list = rw o (w ∙ ap (λ (m : List ℕ). over m list) (sym s)) };
-      }
+      })
 
 -- an accepted text is an expression's
 pub reads-accepted : (text bytes list : List ℕ) {after : List ℕ} {a : Counted} {n : ℕ} → readAnswer (verdict text) ≡ Read n

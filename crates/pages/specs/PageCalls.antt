@@ -5,29 +5,22 @@
 --                       question's own causes, then a space that cannot hold every page; the pages of the text and its pairs
 --   Prints r text work before after a
 --                       asked of the register r, with a space that held `before`: the answer tells how many bytes the pages are, and the space has them
---   Content             what bytes hold: a list of pairs, or nothing that is one
---   Holds text bytes c  c is what the bytes hold as pages of the text
---   readOrder           the causes of reading, in the order in which they are looked for: 10 for bytes, 9, 10 for letters and depth, 14, 13
---   readCauses v c room, readOutcome v c room
---                       the causes against reading, in their order, and its outcome, with a text of the verdict v, bytes that hold c and a list of so many
---                       words
 --   ReadsPages text bytes before after a
---                       of lent bytes and a list that held `before`: if the text is an expression, `content` is what the bytes hold; the answer a tells the
---                       outcome, and the list, which holds `after`, is that outcome's
+--                       of lent bytes and a list that held `before`: refused for the text, with its verdict's number; refused with 14 for bytes that are the
+--                       pages of the text and of no list; else the list, or refused with 13 if it is longer than the lent one, which holds `after`
 -- Assumes nothing: these are definitions.
 use mathlib.Core.Path.{_≡_}
 use mathlib.Core.List.{List, [], _∷_, _++_}
-use mathlib.Core.Bool.{Bool, true, false}
-use Prim.Native.Nat.{ℕ}
+use mathlib.Core.Bool.{Bool}
+use Prim.Native.Nat.{ℕ, suc}
 use lib.Dec.{ltb}
 use lib.ListN.{length}
-use Rattle.book.specs.Causes.{Cause, no-expression, too-many-bytes, too-large, broken-frame, short-list, firstNumber}
+use Rattle.book.specs.Causes.{Cause, broken-frame, short-list, number, firstNumber}
 use Rattle.book.specs.Book.{Book}
-use Rattle.paths.specs.Expressions.{Expr}
-use Rattle.paths.specs.Grammar.{Verdict, accepted, verdictCause}
+use Rattle.paths.specs.Grammar.{verdictCause}
 use Rattle.paths.specs.Verdicts.{verdict}
 use Rattle.answers.specs.declared.Counted.{Counted}
-use Rattle.paths.specs.Questions.{Outcome, by-trees, paired, unless, pairsOf, pairsCauses, Tells}
+use Rattle.paths.specs.Questions.{Outcome, refused, by-trees, paired, unless, pairsOf, pairsCauses, Tells}
 use Rattle.register.specs.declared.Register.{Register}
 use Rattle.query.specs.Asking.{Asks}
 use Rattle.pages.specs.Pages.{pages, IsPages}
@@ -47,32 +40,9 @@ abbrev pub Prints : Register → List ℕ → ℕ → List ℕ → List ℕ → 
 Prints r text work before after a = Asks (length before) r (λ b. printOutcome b text work (length before)) before after a
 
 -- ---- reading
-pub data Content : Type 0 where
-  listing : List ℕ → Content
-  nothing : Content
-
-pub data Holds (text bytes : List ℕ) : Content → Type 0 where
-  are-pages : {l : List ℕ} → IsPages text bytes l → Holds text bytes (listing l)
-  no-pages : ((l : List ℕ) → IsPages text bytes l → ⊥) → Holds text bytes nothing
-
-unfoldable pub wordsIn : Content → List ℕ
-wordsIn (listing l) = l
-wordsIn nothing = []
-
-unfoldable pub isNothing : Content → Bool
-isNothing (listing l) = false
-isNothing nothing = true
-
-unfoldable pub readOrder : List Cause
-readOrder = too-many-bytes ∷ no-expression ∷ too-large ∷ broken-frame ∷ short-list ∷ []
-
-unfoldable pub readCauses : Verdict → Content → ℕ → List (Cause × Bool)
-readCauses v c room = verdictCause v ++ ((broken-frame, isNothing c) ∷ (short-list, ltb room (length (wordsIn c))) ∷ [])
-
-unfoldable pub readOutcome : Verdict → Content → ℕ → Outcome
-readOutcome v c room = unless (firstNumber (readCauses v c room)) (filled (wordsIn c))
-
-pub record ReadsPages (text bytes before after : List ℕ) (a : Counted) : Type 0 where
-  pub content : Content
-  pub holds : (e : Expr) → verdict text ≡ accepted e → Holds text bytes content
-  pub tells : Tells (readOutcome (verdict text) content (length before)) before after a
+pub data ReadsPages (text bytes before after : List ℕ) (a : Counted) : Type 0 where
+  faulty-text : {k : ℕ} → firstNumber (verdictCause (verdict text)) ≡ suc k → Tells (refused (suc k)) before after a → ReadsPages text bytes before after a
+  not-pages : firstNumber (verdictCause (verdict text)) ≡ 0 → ((l : List ℕ) → IsPages text bytes l → ⊥)
+      → Tells (refused (number broken-frame)) before after a → ReadsPages text bytes before after a
+  given-pages : (l : List ℕ) → firstNumber (verdictCause (verdict text)) ≡ 0 → IsPages text bytes l
+      → Tells (unless (firstNumber ((short-list, ltb (length before) (length l)) ∷ [])) (filled l)) before after a → ReadsPages text bytes before after a

@@ -28,8 +28,8 @@ use Rattle.paths.specs.Questions.{Outcome, refused, pairsOf, pairsCauses, over,
 use Rattle.register.specs.Representation.{Represents}
 use Rattle.register.specs.declared.Register.{Register}
 use Rattle.pages.specs.Pages.{pages, IsPages}
-use Rattle.pages.specs.PageCalls.{filled, printOutcome, Prints, Content, listing, nothing, Holds, are-pages, no-pages, readCauses, readOutcome}
-use Rattle.pages.specs.PageCalls.{ReadsPages}
+use Rattle.pages.specs.PageCalls.{filled, printOutcome, Prints, ReadsPages}
+use Rattle.pages.specs.PageCallLaws.{Content, listing, nothing, Holds, are-pages, no-pages, readCauses, readOutcome, reads-as}
 use Rattle.pages.specs.PageCallLaws.{print-refused, print-little, print-short, print-filled, read-broken, read-short, read-filled}
 use Rattle.pages.specs.Lines.{linesOf, wordsBefore}
 use Rattle.pages.specs.ReadLaws.{pages-stand}
@@ -94,7 +94,8 @@ pub print-read : {r : Register} {b : Book} {text before after : List ℕ} (work 
     → {list list′ : List ℕ} {a : Counted} → ReadsPages text (take k after) list list′ a → length (pairsOf b (verdict text)) ≤ length list
     → (a ≡ Count (length (pairsOf b (verdict text)))) × (list′ ≡ over (pairsOf b (verdict text)) list)
 unfolding countOf listAfter pairsOf
-print-read {r} {b} {text} {before} {after} work {k} R P {list} {list′} {a} Q room =
+print-read {r} {b} {text} {before} {after} work {k} R P {list} {list′} {a} read room =
+    let Q = reads-as read in
     let B = P .book b R in
     let p = printed b text work (length before) k (verdict text) refl (B .answer) in
     let e = p .syntax in
@@ -140,7 +141,8 @@ held (no-pages n) e = absurd (let z : _≡_ {A = ℕ} 0 1 = cc in omega arith)
 
 pub read-print : {text bytes list list′ : List ℕ} {k : ℕ} → ReadsPages text bytes list list′ (Count k) → pages text (take k list′) ≡ bytes
 unfolding listAfter
-read-print {text} {bytes} {list} {list′} {k} Q =
+read-print {text} {bytes} {list} {list′} {k} read =
+    let Q = reads-as read in
     let f = found (verdict text) (Q .content) (length list) k (Q .tells .answer) in
     let l = f .words in
     let s : list′ ≡ over l list = Q .tells .list ∙ ap (λ (o : Outcome). listAfter o list) (f .outcome) in

@@ -33,7 +33,7 @@ use Rattle.query.specs.Asking.{AsksFor}
 use Rattle.chains.specs.Replies.{outcomeOf, chainCounted}
 use Rattle.chains.specs.declared.ChainAnswer.{ChainAnswer}
 use Rattle.chains.specs.declared.ChainAnswer.the-variants.{Chain, NoChain, Refused as Unanswered}
-use Rattle.session.specs.Program.{engineFor, programPairs}
+use Rattle.session.specs.Program.{engineFor}
 
 unfoldable pub totalSaid : Counted → List ℕ
 totalSaid (Count t) = totalText 0 t
@@ -73,12 +73,11 @@ listing-is d b v work a before after t = by-number (firstNumber (pairsCauses d b
 
 pub record AnswersPairs (r : Register) (text : List ℕ) (work : ℕ) (before after : List ℕ) (a : Counted) : Type 0 where
   pub past : drop (counted a) after ≡ drop (counted a) before
-  pub book : (b : Book) → Represents r b → (listing a after ≡ programPairs b (verdict text) work (length before))
-      × (after ≡ listAfter (programPairs b (verdict text) work (length before)) before)
+  pub book : (b : Book) → Represents r b → (listing a after ≡ pairsAnswer (engineFor (b .n)) b (verdict text) work (length before))
+      × (after ≡ listAfter (pairsAnswer (engineFor (b .n)) b (verdict text) work (length before)) before)
 
 pub engine-answers : {r : Register} {n work : ℕ} {text before after : List ℕ} {a : Counted} (d : Engine) → Sized r n → engineFor n ≡ d
     → AsksFor d r (verdict text) work before after a → AnswersPairs r text work before after a
-unfolding programPairs
 engine-answers {n = n} {work} {text} {before} {after} {a} d S e A = record {
   past = A .contained .past;
   book = λ b R.

@@ -8,9 +8,9 @@
 --                   a number below 65,536 as two bytes, little-endian; the bytes of a frame of kind k with the body s
 --   openKind, pairsKind, chainKind, totalKind
 --                   the kinds of frames that are no call; those of calls are a history's (register `addKind` .. `reinstateKind`)
---   Request         opening with n; a call of the book; a pair question with its text; a chain question with from, to and its text; asking for the
---                   total of a label
---   Frame           what a frame says: a request, or the cause why it says none
+--   Request         what is asked of an opened session: a call of the book; a pair question with its text; a chain question with from, to and its text;
+--                   asking for the total of a label
+--   Frame           what a frame says: opening with n, a request, or the cause why it says neither
 --   shapeOf k       the shape of the body of kind k: empty, a record, a link, a size, a label, an expression, or two ends and an expression; or no kind's
 --   fits h n        whether a body of the shape h may have n bytes
 --   called e        what a frame says whose kind and arguments are the entry e of a history
@@ -18,22 +18,22 @@
 --   decode k s      what a frame of kind k with the body s says: an unknown kind comes before a wrong body size
 --   Session         no register opened yet, or the book of the one that is
 --   openAnswer n    the answer to opening with n: in the program n is 1 to 64
---   rowRecords, engineFor n, programPairs b v work room
---                   the most records whose pair questions are answered by rows; the outcome of a pair question: by rows up to so many records, by trees above
+--   rowRecords, engineFor n
+--                   the most records whose pair questions are answered by rows; the engine: by rows up to so many records, by trees above
 --   nextSession s f the session after a frame
---   Right s f v t   v is the verdict on the frame's text, and t the reply to its chain question, where it has them
---   printed w r s f v t
---                   the bytes that the frame prints, if w words of work and a list of r words are lent
---   listLeft w l s f v t
---                   what the list holds after the frame, if it held l: only a question to an opened session writes its answer there
+--   Right s f v t   v is the verdict on the frame's text, and t the reply to its chain question, where it has them and a register is opened
+--   printing w l s f v t
+--                   the bytes that the frame prints, if w words of work and a list that holds l are lent; and what the list holds after it: only a question
+--                   to an opened session writes its answer there
+--   frameAt i       what the whole frame at the front of i says
 --   Run w s l i o s′ l′
 --                   a run with w words of work from the session s on, and a list that holds l: with the bytes i on standard input it prints the bytes o,
 --                   and leaves the session s′ and the list l′
 -- Assumes nothing: these are definitions.
+use mathlib.Core.Path.{_≡_}
 use mathlib.Core.List.{List, [], _∷_, _++_}
-use mathlib.Core.Logic.{_⊎_}
 use mathlib.Core.Bool.{Bool, true, _||_}
-use Prim.Native.Nat.{ℕ, _+_, _-_, _*_, _/_, _%_, _≤_, _<_}
+use Prim.Native.Nat.{ℕ, _+_, _-_, _*_, _/_, _%_, _<_}
 use lib.ListN.{length, getD, take, drop}
 use lib.Dec.{leb, ltb, eqb}
 use Rattle.book.specs.Basics.{pick}
@@ -41,7 +41,7 @@ use Rattle.book.specs.Causes.{Cause, bad-size, broken-frame, unknown-kind, not-
 use Rattle.book.specs.Book.{Book, Call, answer, next, fresh, total, totalNumber}
 use Rattle.paths.specs.Grammar.{Verdict, Judged}
 use Rattle.paths.specs.Chains.{asked, Reply}
-use Rattle.paths.specs.Questions.{Outcome, Engine, by-trees, by-rows, pairsAnswer, chainAnswer, ReplyTo, listAfter}
+use Rattle.paths.specs.Questions.{Engine, by-trees, by-rows, pairsAnswer, chainAnswer, ReplyTo, listAfter}
 use Rattle.register.specs.History.{addKind, removeKind, lockKind, unlockKind, undoKind, withdrawKind, reinstateKind, Entry, is-call, no-call, kindCall}
 use Rattle.report.specs.Report.{refusedText, answerText, totalText, outcomeText}
 use Rattle.session.specs.declared.Shape.{Shape}
@@ -87,13 +87,13 @@ abbrev pub totalKind : ℕ
 totalKind = 9
 
 pub data Request : Type 0 where
-  opening : ℕ → Request
   call : Call → Request
   pairs : List ℕ → Request
   chain : ℕ → ℕ → List ℕ → Request
   totalling : ℕ → Request
 
 pub data Frame : Type 0 where
+  opens : ℕ → Frame
   asks : Request → Frame
   faulty : Cause → Frame
 
@@ -127,7 +127,7 @@ unfoldable pub taken : Shape → ℕ → List ℕ → Frame
 taken Empty k s = called (kindCall k 0 0 0)
 taken Record k s = called (kindCall k (number16 s 0) 0 0)
 taken Link k s = called (kindCall k (number16 s 0) (getD s 2 0) (number16 s 3))
-taken Size k s = asks (opening (number16 s 0))
+taken Size k s = opens (number16 s 0)
 taken Label k s = asks (totalling (getD s 0 0))
 taken Expression k s = asks (pairs s)
 taken Ends k s = asks (chain (number16 s 0) (number16 s 2) (drop 4 s))
@@ -149,65 +149,39 @@ rowRecords = 32
 unfoldable pub engineFor : ℕ → Engine
 engineFor n = pick (leb n rowRecords) by-rows by-trees
 
-unfoldable pub programPairs : Book → Verdict → ℕ → ℕ → Outcome
-programPairs b v work room = pairsAnswer (engineFor (b .n)) b v work room
-
 -- a refused open keeps the old register
 unfoldable pub nextSession : Session → Frame → Session
 nextSession s (faulty c) = s
-nextSession s (asks (opening n)) = pick (eqb (openAnswer n) 0) (opened (fresh n)) s
+nextSession s (opens n) = pick (eqb (openAnswer n) 0) (opened (fresh n)) s
 nextSession unopened (asks (call c)) = unopened
 nextSession (opened b) (asks (call c)) = opened (next b c)
 nextSession s (asks (pairs u)) = s
 nextSession s (asks (chain x y u)) = s
 nextSession s (asks (totalling l)) = s
 
-abbrev pub Right : Session → Frame → Verdict → Reply → Type 0
-Right (opened b) (asks (pairs u)) v t = Judged u v
-Right (opened b) (asks (chain x y u)) v t = Judged u v × ReplyTo (asked b) v x y t
-Right (opened b) (asks (totalling l)) v t = Unit
-Right (opened b) (asks (opening n)) v t = Unit
-Right (opened b) (asks (call c)) v t = Unit
-Right (opened b) (faulty c) v t = Unit
-Right unopened f v t = Unit
+pub record Right (s : Session) (f : Frame) (v : Verdict) (t : Reply) : Type 0 where
+  pub text : (b : Book) (u : List ℕ) → s ≡ opened b → f ≡ asks (pairs u) → Judged u v
+  pub reply : (b : Book) (x y : ℕ) (u : List ℕ) → s ≡ opened b → f ≡ asks (chain x y u) → Judged u v × ReplyTo (asked b) v x y t
 
 -- the frame's own causes first, then that no register is opened, then those of the call
-unfoldable pub printed : ℕ → ℕ → Session → Frame → Verdict → Reply → List ℕ
-printed work room s (faulty c) v t = refusedText (number c)
-printed work room s (asks (opening n)) v t = answerText (openAnswer n)
-printed work room unopened (asks (call c)) v t = refusedText (number not-open)
-printed work room unopened (asks (pairs u)) v t = refusedText (number not-open)
-printed work room unopened (asks (chain x y u)) v t = refusedText (number not-open)
-printed work room unopened (asks (totalling l)) v t = refusedText (number not-open)
-printed work room (opened b) (asks (call c)) v t = answerText (answer b c)
-printed work room (opened b) (asks (pairs u)) v t = outcomeText (programPairs b v work room)
-printed work room (opened b) (asks (chain x y u)) v t = outcomeText (chainAnswer b x y v t work room)
-printed work room (opened b) (asks (totalling l)) v t = totalText (totalNumber l) (total (b .sheet) l)
+unfoldable pub printing : ℕ → List ℕ → Session → Frame → Verdict → Reply → List ℕ × List ℕ
+printing work l s (faulty c) v t = (refusedText (number c), l)
+printing work l s (opens n) v t = (answerText (openAnswer n), l)
+printing work l unopened (asks q) v t = (refusedText (number not-open), l)
+printing work l (opened b) (asks (call c)) v t = (answerText (answer b c), l)
+printing work l (opened b) (asks (pairs u)) v t = let o = pairsAnswer (engineFor (b .n)) b v work (length l) in (outcomeText o, listAfter o l)
+printing work l (opened b) (asks (chain x y u)) v t = let o = chainAnswer b x y v t work (length l) in (outcomeText o, listAfter o l)
+printing work l (opened b) (asks (totalling k)) v t = (totalText (totalNumber k) (total (b .sheet) k), l)
 
-unfoldable pub listLeft : ℕ → List ℕ → Session → Frame → Verdict → Reply → List ℕ
-listLeft work l s (faulty c) v t = l
-listLeft work l s (asks (opening n)) v t = l
-listLeft work l s (asks (call c)) v t = l
-listLeft work l s (asks (totalling k)) v t = l
-listLeft work l unopened (asks (pairs u)) v t = l
-listLeft work l unopened (asks (chain x y u)) v t = l
-listLeft work l (opened b) (asks (pairs u)) v t = listAfter (programPairs b v work (length l)) l
-listLeft work l (opened b) (asks (chain x y u)) v t = listAfter (chainAnswer b x y v t work (length l)) l
-
--- of bytes that follow a length n: the frame's kind and body
-abbrev pub frameIn : ℕ → List ℕ → Frame
-frameIn n i = decode (number16 i 0) (take (n - 2) (drop 2 i))
+-- the frame at the front of bytes: the length and the kind have two bytes each
+abbrev pub frameAt : List ℕ → Frame
+frameAt i = decode (number16 i 2) (take (wholeFront i - 4) (drop 4 i))
 
 pub data Run (work : ℕ) : Session → List ℕ → List ℕ → List ℕ → Session → List ℕ → Type 0 where
   -- input that stops between frames
   ended : {s : Session} {l : List ℕ} → Run work s l [] [] s l
   -- a frame that is cut in its length, has a length below 2 or above 1,024, or is cut after it
-  lone-byte : {s : Session} {l : List ℕ} {a : ℕ} → Run work s l (a ∷ []) (refusedText (number broken-frame)) s l
-  bad-length : {s : Session} {l : List ℕ} {a b : ℕ} {i : List ℕ} → (a + 256 * b < minFrame) ⊎ (maxFrame < a + 256 * b)
-      → Run work s l (a ∷ b ∷ i) (refusedText (number broken-frame)) s l
-  cut : {s : Session} {l : List ℕ} {a b : ℕ} {i : List ℕ} → length i < a + 256 * b → Run work s l (a ∷ b ∷ i) (refusedText (number broken-frame)) s l
-  framed : {s s′ : Session} {l l′ : List ℕ} {a b : ℕ} {i o : List ℕ} (v : Verdict) (t : Reply)
-      → minFrame ≤ a + 256 * b → a + 256 * b ≤ maxFrame → a + 256 * b ≤ length i
-      → Right s (frameIn (a + 256 * b) i) v t
-      → Run work (nextSession s (frameIn (a + 256 * b) i)) (listLeft work l s (frameIn (a + 256 * b) i) v t) (drop (a + 256 * b) i) o s′ l′
-      → Run work s l (a ∷ b ∷ i) (printed work (length l) s (frameIn (a + 256 * b) i) v t ++ o) s′ l′
+  broken : {s : Session} {l i : List ℕ} → 0 < length i → wholeFront i ≡ 0 → Run work s l i (refusedText (number broken-frame)) s l
+  framed : {s s′ : Session} {l l′ i o : List ℕ} (v : Verdict) (t : Reply) → 0 < wholeFront i → Right s (frameAt i) v t
+      → Run work (nextSession s (frameAt i)) (printing work l s (frameAt i) v t .1) (drop (wholeFront i) i) o s′ l′
+      → Run work s l i (printing work l s (frameAt i) v t .0 ++ o) s′ l′

@@ -11,7 +11,7 @@
 --   struck, uses, struck-run
 --                  a run that withdraws a record and reinstates it, with its refusals, both undone; pairs and a chain in between
 -- Assumes nothing.
-use mathlib.Core.Path.{_≡_, refl, subst, _∙_}
+use mathlib.Core.Path.{_≡_, refl, ap, subst, _∙_}
 use mathlib.Core.List.{List, [], _∷_, _++_}
 use mathlib.Core.Bool.{true, false}
 use Prim.Native.Nat.{ℕ, _+_, _*_}
@@ -40,8 +40,9 @@ use Rattle.report.specs.Report.{bytes, figures, decimal, pairLine, labelLetter,
 use Rattle.report.specs.Report.{chainText, answerText, totalText, outcomeText}
 use Rattle.register.specs.History.{kindCall}
 use Rattle.session.specs.Program.{programWords, minFrame, maxFrame, number16, twoBytes, frameOf, shapeOf, fits, called, taken, decode, Session, unopened}
-use Rattle.session.specs.Program.{openAnswer, engineFor, programPairs, nextSession, Right, printed, listLeft, frameIn, Run, framed, ended, lone-byte}
-use Rattle.session.specs.ProgramLaws.{length-left}
+use Rattle.session.specs.Program.{openAnswer, engineFor, nextSession, printing, Run, ended}
+use Rattle.session.specs.ProgramLaws.{length-left, printed, printing-printed, Rightly, right-by}
+use Rattle.session.specs.StepLaws.{frameIn, framed-as, lone-byte}
 
 unfoldable pub input : List ℕ
 input =
@@ -64,16 +65,18 @@ Prints s i o = (l : List ℕ) → length l ≡ programWords → (s′ : Session)
 -- one frame more
 by : {s : Session} {a b : ℕ} {i : List ℕ} (o : List ℕ) (v : Verdict) (t : Reply)
     → leb minFrame (a + 256 * b) ≡ true → leb (a + 256 * b) maxFrame ≡ true → leb (a + 256 * b) (length i) ≡ true
-    → Right s (frameIn (a + 256 * b) i) v t
+    → Rightly s (frameIn (a + 256 * b) i) v t
     → Prints (nextSession s (frameIn (a + 256 * b) i)) (drop (a + 256 * b) i) o
     → Prints s (a ∷ b ∷ i) (printed programWords programWords s (frameIn (a + 256 * b) i) v t ++ o)
 by {s} {a} {b} {i} o v t h k m r rest l e =
     let f = frameIn (a + 256 * b) i in
-    let x = rest (listLeft programWords l s f v t) (length-left programWords l s f v t ∙ e) in (
+    let x = rest (printing programWords l s f v t .1) (length-left programWords l s f v t ∙ e) in (
       x .0,
       x .1,
-      subst (λ (room : ℕ). Run programWords s l (a ∷ b ∷ i) (printed programWords room s f v t ++ o) (x .0) (x .1)) e
-          (framed {a = a} {b = b} {i = i} v t (leb-true _ _ h) (leb-true _ _ k) (leb-true _ _ m) r (x .2)),
+      subst (λ (u : List ℕ). Run programWords s l (a ∷ b ∷ i) (u ++ o) (x .0) (x .1))
+          (printing-printed programWords l s f v t ∙ ap (λ (room : ℕ). printed programWords room s f v t) e)
+          (framed-as programWords a b i (drop (a + 256 * b) i) o f v t refl refl (leb-true _ _ h) (leb-true _ _ k) (leb-true _ _ m)
+          (right-by s f v t r) (x .2)),
     )
 
 -- the register's history in the sample, and the chain that it asks for in the end
@@ -109,7 +112,7 @@ unfolding input output twoBytes frameOf bytes number16 shapeOf fits kindCall cal
     refusedText pairsText chainText counted lines pairLine stepLine labelLetter senseSign decimal figures number firstNumber causes editAnswer edited turned
     undoAnswer undone answer next fresh after has without verdict readAlternatives alternativesIn letters depth verdictCause standsFor asked most crossedBy
     zeroSteps diagonal transpose union serves product via closure cells rowPairs rowsPairs listed pairs pairsOf pairsCauses pairsAnswer engineFor
-    programPairs steps stepWords chainCauses chainAnswer rise height treeUnit
+    steps stepWords chainCauses chainAnswer rise height treeUnit
 sample =
     by (drop 3 output) long none refl refl refl tt
     (by (drop 6 output) long none refl refl refl tt
@@ -160,7 +163,7 @@ none-asked = (verdict-right [], λ e h. absurd (outside-none e h))
 pub refused-run : Prints unopened faults refusals
 unfolding faults refusals twoBytes frameOf bytes number16 shapeOf fits kindCall called taken decode openAnswer nextSession printed answerText outcomeText
     okText refusedText counted decimal figures number firstNumber causes editAnswer edited turned undoAnswer undone answer next fresh has without verdict
-    readAlternatives alternativesIn letters depth verdictCause asked pairsOf pairsCauses pairsAnswer engineFor programPairs steps chainCauses
+    readAlternatives alternativesIn letters depth verdictCause asked pairsOf pairsCauses pairsAnswer engineFor steps chainCauses
     chainAnswer
 refused-run =
     by (drop 11 refusals) long none refl refl refl tt
@@ -182,7 +185,7 @@ refused-run =
     (by (drop 154 refusals) long none refl refl refl tt
     (by (drop 164 refusals) (verdict []) none refl refl refl none-asked
     (by (drop 175 refusals) long none refl refl refl tt
-    (λ l e. (_, l, lone-byte))))))))))))))))))))
+    (λ l e. (_, l, lone-byte programWords))))))))))))))))))))
 
 unfoldable pub totalled : List ℕ
 totalled =
@@ -256,7 +259,7 @@ unfolding struck uses twoBytes frameOf bytes number16 shapeOf fits kindCall call
     refusedText noneText pairsText chainText counted lines pairLine stepLine labelLetter senseSign decimal figures number firstNumber causes editAnswer edited
     turned undoAnswer undone answer next fresh after has without touched verdict readAlternatives alternativesIn letters depth verdictCause standsFor asked
     most crossedBy zeroSteps diagonal transpose union serves product via closure cells rowPairs rowsPairs listed pairs pairsOf pairsCauses pairsAnswer
-    engineFor programPairs steps stepWords chainCauses chainAnswer rise height treeUnit
+    engineFor steps stepWords chainCauses chainAnswer rise height treeUnit
 struck-run =
     by (drop 3 uses) long none refl refl refl tt
     (by (drop 6 uses) long none refl refl refl tt

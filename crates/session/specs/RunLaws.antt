@@ -1,13 +1,11 @@
 -- A run is determined: for every session, list and input there is one output, one session and one list at the end, and only one.
 --   run-exists      there are such
 --   run-only        there are no others
---   framed-as       a turn of a run, if it is known which frame stands in the bytes and what follows it
 -- Assumes nothing.
 use mathlib.Core.Path.{_≡_, refl, sym, ap, ap₂, subst, _∙_}
-use mathlib.Core.Logic.{_⊎_, inl, inr}
 use mathlib.Core.List.{List, [], _∷_, _++_}
 use mathlib.Core.Bool.{Bool, true, false, _||_}
-use Prim.Native.Nat.{ℕ, zero, suc, _+_, _*_, _≤_, _<_}
+use Prim.Native.Nat.{ℕ, zero, suc, _≤_, _<_}
 use native.Mathlib.Decide.{decLt}
 use native.Mathlib.Omega.{arith}
 use lib.ListN.{length, drop, length-drop}
@@ -17,12 +15,12 @@ use Rattle.book.specs.Causes.{number, firstNumber}
 use Rattle.book.specs.Book.{Book}
 use Rattle.paths.specs.Grammar.{Verdict, accepted, long, outside, large, Judged, verdictCause}
 use Rattle.paths.specs.Chains.{asked, Reply}
-use Rattle.paths.specs.Questions.{Outcome, unless, replied, ReplyTo, chainCauses, chainAnswer, listAfter}
+use Rattle.paths.specs.Questions.{Outcome, unless, replied, ReplyTo, pairsAnswer, chainCauses, chainAnswer, listAfter}
 use Rattle.paths.specs.Verdicts.{verdict-only}
 use Rattle.paths.specs.FirstChainLaws.{reply-only}
 use Rattle.report.specs.Report.{outcomeText}
-use Rattle.session.specs.Program.{minFrame, maxFrame, Frame, asks, faulty, opening, call, pairs, chain, totalling, Session, unopened, opened, nextSession}
-use Rattle.session.specs.Program.{programPairs, Right, printed, listLeft, frameIn, Run, ended, lone-byte, bad-length, cut, framed}
+use Rattle.session.specs.Program.{following, wholeFront, Frame, asks, faulty, opens, call, pairs, chain, totalling, Session, unopened, opened}
+use Rattle.session.specs.Program.{nextSession, engineFor, Right, printing, frameAt, Run, ended, broken, framed}
 use Rattle.session.specs.ProgramLaws.{Steady, next-steady, right-exists}
 
 module _ (work : ℕ) where
@@ -35,19 +33,16 @@ module _ (work : ℕ) where
 
   one-more : (k : ℕ) → Outputs k → Outputs (suc k)
   one-more k outputs s h l [] m = ([], s, l, ended)
-  one-more k outputs s h l (a ∷ []) m = (_, s, l, lone-byte)
-  one-more k outputs s h l (a ∷ b ∷ i) m = go (decLt (a + 256 * b) minFrame) (decLt maxFrame (a + 256 * b)) (decLt (length i) (a + 256 * b))
+  one-more k outputs s h l (a ∷ i) m = go (decLt 0 (wholeFront (a ∷ i)))
     where
-      go : Dec (a + 256 * b < minFrame) → Dec (maxFrame < a + 256 * b) → Dec (length i < a + 256 * b) → Results s l (a ∷ b ∷ i)
-      go (yes p) q r = (_, s, l, bad-length (inl p))
-      go (no p) (yes q) r = (_, s, l, bad-length (inr q))
-      go (no p) (no q) (yes r) = (_, s, l, cut r)
-      go (no p) (no q) (no r) =
-          let f = frameIn (a + 256 * b) i in
+      go : Dec (0 < wholeFront (a ∷ i)) → Results s l (a ∷ i)
+      go (no p) = (_, s, l, broken {i = a ∷ i} (omega arith) (omega arith))
+      go (yes p) =
+          let f = frameAt (a ∷ i) in
           let t = right-exists s f h in
-          let more = outputs (nextSession s f) (next-steady s f h) (listLeft work l s f (t .0) (t .1))
-          (drop (a + 256 * b) i) (omega (arith, length-drop (a + 256 * b) i)) in
-          (_, more .1, more .2, framed {a = a} {b = b} {i = i} (t .0) (t .1) (omega arith) (omega arith) (omega arith) (t .2) (more .3))
+          let more = outputs (nextSession s f) (next-steady s f h) (printing work l s f (t .0) (t .1) .1)
+          (drop (wholeFront (a ∷ i)) (a ∷ i)) (omega (arith, length-drop (wholeFront (a ∷ i)) (a ∷ i))) in
+          (_, more .1, more .2, framed {i = a ∷ i} (t .0) (t .1) p (t .2) (more .3))
 
   outputs : (k : ℕ) → Outputs k
   outputs zero s h l [] m = ([], s, l, ended)
@@ -63,8 +58,9 @@ module _ (work : ℕ) where
   text-refused false k o p = refl
 
   -- the outcome of a question is the same for every verdict and reply that are right
-  pairs-only : (room : ℕ) (b : Book) (u : List ℕ) (v w : Verdict) → Judged u v → Judged u w → programPairs b v work room ≡ programPairs b w work room
-  pairs-only room b u v w h k = ap (λ (d : Verdict). programPairs b d work room) (verdict-only h ∙ sym (verdict-only k))
+  pairs-only : (room : ℕ) (b : Book) (u : List ℕ) (v w : Verdict) → Judged u v → Judged u w
+      → pairsAnswer (engineFor (b .n)) b v work room ≡ pairsAnswer (engineFor (b .n)) b w work room
+  pairs-only room b u v w h k = ap (λ (d : Verdict). pairsAnswer (engineFor (b .n)) b d work room) (verdict-only h ∙ sym (verdict-only k))
 
   reply-same : (room : ℕ) (b : Book) (x y : ℕ) (v : Verdict) (t u : Reply) → ReplyTo (asked b) v x y t → ReplyTo (asked b) v x y u
       → chainAnswer b x y v t work room ≡ chainAnswer b x y v u work room
@@ -84,59 +80,47 @@ module _ (work : ℕ) where
 
   -- so are what a frame prints and the list that it leaves
   abbrev Same : List ℕ → Session → Frame → Verdict → Verdict → Reply → Reply → Type 0
-  Same l s f v w t u = (printed work (length l) s f v t ≡ printed work (length l) s f w u) × (listLeft work l s f v t ≡ listLeft work l s f w u)
+  Same l s f v w t u = (printing work l s f v t .0 ≡ printing work l s f w u .0) × (printing work l s f v t .1 ≡ printing work l s f w u .1)
 
   frame-only : (l : List ℕ) (s : Session) (f : Frame) (v w : Verdict) (t u : Reply) → Right s f v t → Right s f w u → Same l s f v w t u
-  unfolding printed listLeft
+  unfolding printing
   frame-only l unopened (faulty c) v w t u h k = (refl, refl)
-  frame-only l unopened (asks (opening n)) v w t u h k = (refl, refl)
+  frame-only l unopened (opens n) v w t u h k = (refl, refl)
   frame-only l unopened (asks (call c)) v w t u h k = (refl, refl)
   frame-only l unopened (asks (pairs e)) v w t u h k = (refl, refl)
   frame-only l unopened (asks (chain x y e)) v w t u h k = (refl, refl)
   frame-only l unopened (asks (totalling x)) v w t u h k = (refl, refl)
   frame-only l (opened b) (faulty c) v w t u h k = (refl, refl)
-  frame-only l (opened b) (asks (opening n)) v w t u h k = (refl, refl)
+  frame-only l (opened b) (opens n) v w t u h k = (refl, refl)
   frame-only l (opened b) (asks (call c)) v w t u h k = (refl, refl)
   frame-only l (opened b) (asks (totalling x)) v w t u h k = (refl, refl)
   frame-only l (opened b) (asks (pairs e)) v w t u h k =
-      let same = pairs-only (length l) b e v w h k in
+      let same = pairs-only (length l) b e v w (h .text b e refl refl) (k .text b e refl refl) in
       (ap outcomeText same, ap (λ (o : Outcome). listAfter o l) same)
   frame-only l (opened b) (asks (chain x y e)) v w t u h k =
-      let same = chain-only (length l) b x y e v w t u h k in
+      let same = chain-only (length l) b x y e v w t u (h .reply b x y e refl refl) (k .reply b x y e refl refl) in
       (ap outcomeText same, ap (λ (o : Outcome). listAfter o l) same)
 
-  fits : (a b : ℕ) → (a + 256 * b < minFrame) ⊎ (maxFrame < a + 256 * b) → minFrame ≤ a + 256 * b → a + 256 * b ≤ maxFrame → ⊥
-  fits a b (inl p) h k = omega arith
-  fits a b (inr p) h k = omega arith
+  -- no frame stands where there are no bytes
+  none-front : wholeFront [] ≡ 0
+  unfolding wholeFront following
+  none-front = refl
 
   -- two runs from lists that are the same
   only : {s s′ t : Session} {l l′ m m′ i o p : List ℕ} → l ≡ m → Run work s l i o s′ l′ → Run work s m i p t m′ → (o ≡ p) × (s′ ≡ t) × (l′ ≡ m′)
   only e ended ended = (refl, refl, e)
-  only e lone-byte lone-byte = (refl, refl, e)
-  only e (bad-length h) (bad-length k) = (refl, refl, e)
-  only e (bad-length h) (cut k) = (refl, refl, e)
-  only e (bad-length {a = a} {b = b} h) (framed v t j k x r q) = absurd (fits a b h j k)
-  only e (cut h) (bad-length k) = (refl, refl, e)
-  only e (cut h) (cut k) = (refl, refl, e)
-  only e (cut h) (framed v t j k x r q) = absurd (omega arith)
-  only e (framed v t j k x r q) (bad-length {a = a} {b = b} h) = absurd (fits a b h j k)
-  only e (framed v t j k x r q) (cut h) = absurd (omega arith)
-  only e (framed {s = s} {l = l} {a = a} {b = b} {i = i} v t j k x r q) (framed {l = m} w u j′ k′ x′ r′ q′) =
-      let f = frameIn (a + 256 * b) i in
+  only e ended (broken h z) = absurd (omega arith)
+  only e ended (framed v t h r q) = absurd (omega (arith, h, none-front))
+  only e (broken h z) ended = absurd (omega arith)
+  only e (broken h z) (broken k y) = (refl, refl, e)
+  only e (broken h z) (framed v t k r q) = absurd (omega (arith, z, k))
+  only e (framed v t h r q) ended = absurd (omega (arith, h, none-front))
+  only e (framed v t h r q) (broken k z) = absurd (omega (arith, z, h))
+  only e (framed {s = s} {l = l} {i = i} v t h r q) (framed {l = m} w u h′ r′ q′) =
+      let f = frameAt i in
       let same = frame-only l s f v w t u r r′ in
-      let rest = only (same .1 ∙ ap (λ (d : List ℕ). listLeft work d s f w u) e) q q′ in
-      (ap₂ (λ (c d : List ℕ). c ++ d) (same .0 ∙ ap (λ (d : List ℕ). printed work (length d) s f w u) e) (rest .0), rest .1, rest .2)
+      let rest = only (same .1 ∙ ap (λ (d : List ℕ). printing work d s f w u .1) e) q q′ in
+      (ap₂ (λ (c d : List ℕ). c ++ d) (same .0 ∙ ap (λ (d : List ℕ). printing work d s f w u .0) e) (rest .0), rest .1, rest .2)
 
   pub run-only : {s s′ t : Session} {l l′ m i o p : List ℕ} → Run work s l i o s′ l′ → Run work s l i p t m → (o ≡ p) × (s′ ≡ t) × (l′ ≡ m)
   run-only q r = only refl q r
-
-  pub framed-as : {s s′ : Session} {l l′ : List ℕ} (a b : ℕ) (i j o : List ℕ) (f : Frame) (v : Verdict) (t : Reply)
-      → frameIn (a + 256 * b) i ≡ f → drop (a + 256 * b) i ≡ j
-      → minFrame ≤ a + 256 * b → a + 256 * b ≤ maxFrame → a + 256 * b ≤ length i
-      → Right s f v t → Run work (nextSession s f) (listLeft work l s f v t) j o s′ l′
-      → Run work s l (a ∷ b ∷ i) (printed work (length l) s f v t ++ o) s′ l′
-  framed-as {s} {s′} {l} {l′} a b i j o f v t e d h k x =
-      subst (λ (g : Frame). Right s g v t → Run work (nextSession s g) (listLeft work l s g v t) j o s′ l′
-      → Run work s l (a ∷ b ∷ i) (printed work (length l) s g v t ++ o) s′ l′) e
-      (λ r m. framed {a = a} {b = b} {i = i} v t h k x r
-      (subst (λ (c : List ℕ). Run work (nextSession s (frameIn (a + 256 * b) i)) (listLeft work l s (frameIn (a + 256 * b) i) v t) c o s′ l′) (sym d) m))

@@ -1,14 +1,13 @@
 -- What a run over lent input promises.
---   Ends work s l l′ i out out′ r
---                   r tells of a run from the session s and the list l that came to its end: what it printed at the front of out, the session
---                   that the state handed back is of, and the list l′, are those of a run over i
---   GoesOn work s l l′ i out out′ r
---                   r tells of one that has more to do: what it printed, followed by what a run prints from the session and the list that it left
---                   over the rest of i, and whatever input comes after it, is what a run over all of it prints; and both leave the same
+--   Came out out′ r R
+--                   r tells of a run that printed something at the front of out, and handed back the state of a session, of which R holds
 --   Advances st i work l l′ out out′ r
 --                   r tells how far a run came from the state st and the list l over the input i: how many bytes it read, how many it printed at the
 --                   front of out, the state then, and whether there is more to do; the list holds l′. Over any contents it keeps within i and out.
---                   For every session that st is the state of, it ended or has more to do, as it says
+--                   For every session that st is the state of, it ended or has more to do, as it says. If it ended, what it printed, the session
+--                   and the list l′ are those of a run over i. If it has more to do, what it printed, followed by what a run prints from the session
+--                   and the list that it left over the rest of i, and whatever input comes after it, is what a run over all of it prints; and both
+--                   leave the same
 --   stayed st       nothing read, nothing printed, and more to do
 --   OneTurn st i work l l′ out out′ r
 --                   r tells of a turn that so advanced. Over any contents: past what was printed out is as it was, and the list is as it was or has
@@ -18,7 +17,6 @@
 --   andThen r q     two parts of a run as one
 --   RunsOn work st i l l′ out out′ r
 --                   r tells of a run: turns one after another, each over the rest of i and of out, until there is too little room, or no more to do
---   Frames i n      the first n bytes of i are whole frames, one after another
 --   Lends work st l l′ i out out′ r
 --                   r tells of a turn of the program: it lends i, at most one frame, and room enough
 --   End             how the program ends: at the end of its input or where no whole frame stands, at a write that failed, or after so many turns
@@ -41,25 +39,19 @@ use Rattle.session.specs.Turns.{StateOf, room, Spares}
 use Rattle.session.specs.declared.State.{State}
 use Rattle.session.specs.declared.Ran.{Ran}
 
-pub record Ends (work : ℕ) (s : Session) (l l′ i out out′ : List ℕ) (r : Ran) : Type 0 where
+pub record Came (out out′ : List ℕ) (r : Ran) (R : List ℕ → Session → Type 0) : Type 0 where
   pub output : List ℕ
   pub session : Session
   pub wrote : Wrote 0 output out out′ (r .written)
   pub holds : StateOf (r .state) session
-  pub runs : Run work s l i output session l′
-
-pub record GoesOn (work : ℕ) (s : Session) (l l′ i out out′ : List ℕ) (r : Ran) : Type 0 where
-  pub output : List ℕ
-  pub session : Session
-  pub wrote : Wrote 0 output out out′ (r .written)
-  pub holds : StateOf (r .state) session
-  pub runs : (j p : List ℕ) (s′ : Session) (l″ : List ℕ) → Run work session l′ (drop (r .read) i ++ j) p s′ l″ → Run work s l (i ++ j) (output ++ p) s′ l″
+  pub runs : R output session
 
 pub record Advances (st : State) (i : List ℕ) (work : ℕ) (l l′ out out′ : List ℕ) (r : Ran) : Type 0 where
   pub inside : r .read ≤ length i
   pub within : r .written ≤ length out
-  pub ends : r .more ≡ false → (s : Session) → StateOf st s → Ends work s l l′ i out out′ r
-  pub goes : r .more ≡ true → (s : Session) → StateOf st s → GoesOn work s l l′ i out out′ r
+  pub ends : r .more ≡ false → (s : Session) → StateOf st s → Came out out′ r (λ o s′. Run work s l i o s′ l′)
+  pub goes : r .more ≡ true → (s : Session) → StateOf st s → Came out out′ r (λ o s′. (j p : List ℕ) (s″ : Session) (l″ : List ℕ)
+      → Run work s′ l′ (drop (r .read) i ++ j) p s″ l″ → Run work s l (i ++ j) (o ++ p) s″ l″)
 
 abbrev pub stayed : State → Ran
 stayed st = record { state = st; read = 0; written = 0; more = true }
@@ -82,10 +74,6 @@ pub data RunsOn (work : ℕ) : State → List ℕ → List ℕ → List ℕ → 
       → RunsOn work (r .state) (drop (r .read) i) l′ l″ (drop (r .written) out′) rest q
       → RunsOn work st i l l″ out (take (r .written) out′ ++ rest) (andThen r q)
 
-pub data Frames : List ℕ → ℕ → Type 0 where
-  no-frames : {i : List ℕ} → Frames i 0
-  frames : {i : List ℕ} {n : ℕ} → 0 < wholeFront i → Frames (drop (wholeFront i) i) n → Frames i (wholeFront i + n)
-
 -- ---- the program
 pub record Lends (work : ℕ) (st : State) (l l′ i out out′ : List ℕ) (r : Ran) : Type 0 where
   pub turn : OneTurn st i work l l′ out out′ r
@@ -106,11 +94,6 @@ pub data Loop (work : ℕ) : ℕ → State → List ℕ → List ℕ → List �
   goes-on : {n : ℕ} {st st′ : State} {l l′ l″ i j p out out′ : List ℕ} {r : Ran} {e : End} → Lends work st l l′ i out out′ r → r .more ≡ true
       → Loop work n (r .state) l′ j p st′ l″ e → Loop work (suc n) st l (i ++ j) (take (r .written) out′ ++ p) st′ l″ e
 
-abbrev pub allSent : End → Bool
-allSent ended = true
-allSent unsent = false
-allSent spent = true
-
 abbrev pub mostTurns : ℕ
 mostTurns = 2 ^ 64 - 1
 
@@ -123,4 +106,4 @@ pub record Answered (sent : Bool) : Type 0 where
   pub end : End
   pub begins : StateOf start unopened
   pub loops : Loop programWords mostTurns start (replicate programWords 0) input output state list end
-  pub tells : sent ≡ allSent end
+  pub tells : (sent ≡ false → end ≡ unsent) × (end ≡ unsent → sent ≡ false)

@@ -1,4 +1,5 @@
 -- Laws of runs over lent input: how a run keeps its promise turn by turn, and what a run and the program's loop are.
+--   Frames i n           the first n bytes of i are whole frames, one after another
 --   runs-advance         a run advances as its turns do
 --   runs-wrote, runs-keeps, runs-frames, runs-ends, runs-full
 --                        over any contents: past what a run printed out is as it was; the list keeps its length; what it read is whole frames; it has no
@@ -12,6 +13,7 @@
 --   withTurn read w q b  a run that had read and written so much, with the turn q, if it tells b of whether there is more to do
 --   leads-done, leads-full, leads-more
 --                        a turn more: with no more to do, with too little room, one that read
+--   allSent, sent-told   what the program tells: that not all was sent, exactly if a write failed
 --   wrote-front          a text that was written stands at the front of out
 --   prints-run           a run with no more to do has printed the one output that the definition of a run says, and left its one session and list
 --   lent-read            a turn of the program that has more to do has read all that it lent
@@ -42,13 +44,17 @@ use Rattle.answers.specs.Written.{written, Wrote}
 use Rattle.answers.specs.WrittenLaws.{length-written, wrote-as, wrote-none, wrote-then}
 use Rattle.session.specs.Program.{programWords, wholeFront, Session, unopened, Run}
 use Rattle.session.specs.RunLaws.{run-only}
-use Rattle.session.specs.StepLaws.{whole-some, stays}
+use Rattle.session.specs.StepLaws.{whole-some, GoesOn, stays}
 use Rattle.session.specs.TurnLaws.{both-ways}
 use Rattle.session.specs.Turns.{StateOf, room, Spares, as-it-was, answered}
-use Rattle.session.specs.Runs.{Ends, GoesOn, Advances, stayed, OneTurn, andThen, RunsOn, full, done, reads, Frames, no-frames, frames}
-use Rattle.session.specs.Runs.{Lends, End, ended, unsent, spent, Loop, no-turns, stops, fails, goes-on, allSent, mostTurns, Answered}
+use Rattle.session.specs.Runs.{Came, Advances, stayed, OneTurn, andThen, RunsOn, full, done, reads}
+use Rattle.session.specs.Runs.{Lends, End, ended, unsent, spent, Loop, no-turns, stops, fails, goes-on, mostTurns, Answered}
 use Rattle.session.specs.declared.State.{State}
 use Rattle.session.specs.declared.Ran.{Ran}
+
+pub data Frames : List ℕ → ℕ → Type 0 where
+  no-frames : {i : List ℕ} → Frames i 0
+  frames : {i : List ℕ} {n : ℕ} → 0 < wholeFront i → Frames (drop (wholeFront i) i) n → Frames i (wholeFront i + n)
 
 module _ (work : ℕ) where
   -- ---- turns one after another
@@ -79,7 +85,8 @@ module _ (work : ℕ) where
           → Wrote 0 (o ++ p) out (take (r .written) m ++ part) (r .written + q .written)
       wrote o p u v = wrote-then u (wrote-part (r .written) (q .written) p m part (omega (arith, a .within)) v)
 
-      ending : q .more ≡ false → (s : Session) → StateOf st s → Ends work s l k′ i out (take (r .written) m ++ part) (andThen r q)
+      ending : q .more ≡ false → (s : Session) → StateOf st s
+          → Came out (take (r .written) m ++ part) (andThen r q) (λ o s′. Run work s l i o s′ k′)
       ending e s h =
           let x = a .goes more s h in
           let y = b .ends e (x .session) (x .holds) in
@@ -265,6 +272,17 @@ module _ (work : ℕ) where
         (subst (λ (x : List ℕ). RunsOn work st i l k″ out x (andThen (record { state = st′; read = read; written = w; more = true }) (andThen q t))) (sym front)
         (f k″ (take (q .written) part ++ rest) (andThen q t) (reads a some rest-run)))
 
+-- what the program tells of how it ended
+abbrev pub allSent : End → Bool
+allSent ended = true
+allSent unsent = false
+allSent spent = true
+
+pub sent-told : (e : End) → (allSent e ≡ false → e ≡ unsent) × (e ≡ unsent → allSent e ≡ false)
+sent-told ended = (λ h. absurd (both-ways true refl h), λ h. absurd (let z : _≡_ {A = ℕ} 0 1 = cc in omega arith))
+sent-told unsent = (λ h. refl, λ h. refl)
+sent-told spent = (λ h. absurd (both-ways true refl h), λ h. absurd (let z : _≡_ {A = ℕ} 0 1 = cc in omega arith))
+
 abbrev NotEnded : End → Type 0
 NotEnded ended = ⊥
 NotEnded unsent = Unit
@@ -363,5 +381,5 @@ looped-answered st e h x =
       end = e;
       begins = h;
       loops = x .loop;
-      tells = refl;
+      tells = sent-told e;
     }

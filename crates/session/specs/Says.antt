@@ -6,12 +6,12 @@ use Prim.Native.Nat.{ℕ}
 use lib.ListN.{drop}
 use Rattle.book.specs.Causes.{broken-frame, unknown-kind}
 use Rattle.register.specs.Calls.{callOf}
-use Rattle.session.specs.Program.{Frame, asks, faulty, opening, call, pairs, chain, totalling}
+use Rattle.session.specs.Program.{Frame, asks, faulty, opens, call, pairs, chain, totalling}
 use Rattle.session.specs.declared.Decoded.{Decoded}
 use Rattle.session.specs.declared.Decoded.the-variants.{Open, Edit, Pairs, Chain, Total, Broken, Unknown}
 
 unfoldable pub says : Decoded → List ℕ → Frame
-says (Open n) s = asks (opening n)
+says (Open n) s = opens n
 says (Edit c) s = asks (call (callOf c))
 says Pairs s = asks (pairs s)
 says (Chain x y) s = asks (chain x y (drop 4 s))

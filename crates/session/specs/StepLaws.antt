@@ -8,15 +8,17 @@
 --   whole-unframed, whole-cut, whole-is, whole-some
 --                        the whole frame at the front: none where nothing follows or bytes are missing, else all of it
 --   whole-long           it has a length, a kind, and all its bytes
---   whole-none           where no whole frame stands, a run prints that the frame is broken
 --   Whole i n            the whole frame at the front of i is n bytes
+--   frameIn n i          of bytes i that follow a length n, the frame's kind and body
+--   lone-byte            a lone byte is a cut frame
+--   framed-as            a turn of a run, if it is known which frame stands in the bytes and what follows it
 --   frontFrame           the frame at the front of the input, if it is n bytes
 --   front-run            a run from a whole frame on: what it prints, then the run over what follows
+--   GoesOn               what `Advances` says of a turn that has more to do
 --   stays, no-frame, at-end, one-frame
 --                        a turn: with too little room, where no whole frame stands, at the end, over one frame
 -- Assumes nothing.
 use mathlib.Core.Path.{_≡_, refl, sym, ap, subst, _∙_}
-use mathlib.Core.Logic.{inl, inr}
 use mathlib.Core.List.{List, [], _∷_, _++_}
 use mathlib.Core.Bool.{Bool, true, false}
 use Prim.Native.Nat.{ℕ, suc, _+_, _-_, _*_, _≤_, _<_}
@@ -35,15 +37,15 @@ use Rattle.register.specs.HistoryLaws.{represents-sound}
 use Rattle.report.specs.Report.{refusedText}
 use Rattle.answers.specs.Written.{written, Wrote}
 use Rattle.answers.specs.WrittenLaws.{wrote-none}
-use Rattle.session.specs.Program.{minFrame, maxFrame, number16, following, wholeFront, Frame, decode, Session, nextSession, Right, printed}
-use Rattle.session.specs.Program.{listLeft, Run, ended, lone-byte, bad-length, cut}
+use Rattle.session.specs.Program.{minFrame, maxFrame, number16, following, wholeFront, Frame, decode, Session, nextSession, Right, printing}
+use Rattle.session.specs.Program.{frameAt, Run, ended, broken, framed}
 use Rattle.session.specs.ProgramLaws.{Steady, right-exists}
-use Rattle.session.specs.RunLaws.{framed-as}
 use Rattle.session.specs.TurnLaws.{both-ways}
-use Rattle.session.specs.Turns.{StateOf, is-closed, is-open, room, as-it-was, Turns}
-use Rattle.session.specs.Runs.{GoesOn, stayed, OneTurn}
+use Rattle.session.specs.Turns.{StateOf, is-closed, is-open, room, Spares, as-it-was, answered, Turns}
+use Rattle.session.specs.Runs.{Came, stayed, OneTurn}
 use Rattle.session.specs.declared.State.{State}
 use Rattle.session.specs.declared.Framed.{Framed}
+use Rattle.session.specs.declared.Ran.{Ran}
 
 -- ---- the front of the input
 pick-some : (b : Bool) (n : ℕ) → 0 < pick b n 0 → record { holds : b ≡ true; is : pick b n 0 ≡ n; positive : 0 < n }
@@ -126,30 +128,6 @@ whole-long i n e h =
     let f = following-some i (w .some) in
     (omega (arith, e, w, f), omega (arith, e, w, f))
 
--- where no whole frame stands, a run prints that the frame is broken
-pub whole-none : (i : List ℕ) → 0 < length i → wholeFront i ≡ 0
-    → (work : ℕ) (s : Session) (l : List ℕ) → Run work s l i (refusedText (number broken-frame)) s l
-unfolding number16
-whole-none [] h e work s l = absurd (omega arith)
-whole-none (a ∷ []) h e work s l = lone-byte
-whole-none (a ∷ b ∷ i) h e work s l = low (decLt (number16 (a ∷ b ∷ i) 0) minFrame)
-  where
-    long : (minFrame ≤ number16 (a ∷ b ∷ i) 0) → (number16 (a ∷ b ∷ i) 0 ≤ maxFrame) → Dec (length i < number16 (a ∷ b ∷ i) 0)
-        → Run work s l (a ∷ b ∷ i) (refusedText (number broken-frame)) s l
-    long k g (yes f) = cut {a = a} {b = b} {i = i} f
-    long k g (no f) =
-        let n = following-is (a ∷ b ∷ i) (omega arith) k g in
-        let w = whole-is (a ∷ b ∷ i) (omega arith) (omega arith) in
-        absurd (omega (arith, n, w, e))
-
-    high : (minFrame ≤ number16 (a ∷ b ∷ i) 0) → Dec (maxFrame < number16 (a ∷ b ∷ i) 0) → Run work s l (a ∷ b ∷ i) (refusedText (number broken-frame)) s l
-    high k (yes g) = bad-length (inr g)
-    high k (no g) = long k (omega arith) (decLt _ _)
-
-    low : Dec (number16 (a ∷ b ∷ i) 0 < minFrame) → Run work s l (a ∷ b ∷ i) (refusedText (number broken-frame)) s l
-    low (yes k) = bad-length (inl k)
-    low (no k) = high (omega arith) (decLt _ _)
-
 -- the whole frame at the front of i is n bytes, with its length
 pub record Whole (i : List ℕ) (n : ℕ) : Type 0 where
   pub size : n ≡ number16 i 0 + 2
@@ -157,21 +135,56 @@ pub record Whole (i : List ℕ) (n : ℕ) : Type 0 where
   pub most : number16 i 0 ≤ maxFrame
   pub inside : number16 i 0 + 2 ≤ length i
 
+-- of bytes that follow a length n: the frame's kind and body
+abbrev pub frameIn : ℕ → List ℕ → Frame
+frameIn n i = decode (number16 i 0) (take (n - 2) (drop 2 i))
+
+front-whole : (a b : ℕ) (i : List ℕ) → minFrame ≤ a + 256 * b → a + 256 * b ≤ maxFrame → a + 256 * b ≤ length i
+    → wholeFront (a ∷ b ∷ i) ≡ suc (suc (a + 256 * b))
+unfolding number16
+front-whole a b i h k x =
+    let n : a + 256 * b ≡ following (a ∷ b ∷ i) = following-is (a ∷ b ∷ i) (omega arith) h k in
+    let w = whole-is (a ∷ b ∷ i) (omega (arith, n)) (omega (arith, n)) in
+    let z : wholeFront (a ∷ b ∷ i) ≡ suc (suc (a + 256 * b)) = omega (arith, n, w) in z
+
+spares-within : {l l′ out out′ : List ℕ} {w : ℕ} → Spares l l′ out out′ w → w ≤ length out
+spares-within (as-it-was t h e) = h .fits
+spares-within (answered o h e) = h .fits
+
 state-steady : {st : State} {s : Session} → StateOf st s → Steady s
 state-steady (is-closed e) = tt
 state-steady (is-open e r k) = (represents-sound r, k)
 
 module _ (work : ℕ) where
+  pub lone-byte : {s : Session} {l : List ℕ} {a : ℕ} → Run work s l (a ∷ []) (refusedText (number broken-frame)) s l
+  lone-byte {a = a} = broken {i = a ∷ []} (omega arith) (sym (whole-unframed (a ∷ []) (sym (following-few (a ∷ []) (omega arith)))))
+
+  pub framed-as : {s s′ : Session} {l l′ : List ℕ} (a b : ℕ) (i j o : List ℕ) (f : Frame) (v : Verdict) (t : Reply)
+      → frameIn (a + 256 * b) i ≡ f → drop (a + 256 * b) i ≡ j
+      → minFrame ≤ a + 256 * b → a + 256 * b ≤ maxFrame → a + 256 * b ≤ length i
+      → Right s f v t → Run work (nextSession s f) (printing work l s f v t .1) j o s′ l′
+      → Run work s l (a ∷ b ∷ i) (printing work l s f v t .0 ++ o) s′ l′
+  unfolding number16
+  framed-as {s} {s′} {l} {l′} a b i j o f v t e d h k x =
+      let w = front-whole a b i h k x in
+      let size : wholeFront (a ∷ b ∷ i) - 4 ≡ a + 256 * b - 2 = omega (arith, w) in
+      let same : frameAt (a ∷ b ∷ i) ≡ f = ap (λ (n : ℕ). decode (number16 i 0) (take n (drop 2 i))) size ∙ e in
+      let rest : drop (wholeFront (a ∷ b ∷ i)) (a ∷ b ∷ i) ≡ j = ap (λ (n : ℕ). drop n (a ∷ b ∷ i)) w ∙ d in
+      subst (λ (g : Frame). Right s g v t → Run work (nextSession s g) (printing work l s g v t .1) j o s′ l′
+      → Run work s l (a ∷ b ∷ i) (printing work l s g v t .0 ++ o) s′ l′) same
+      (λ r m. framed {i = a ∷ b ∷ i} v t (omega (arith, w)) r
+      (subst (λ (c : List ℕ). Run work (nextSession s (frameAt (a ∷ b ∷ i))) (printing work l s (frameAt (a ∷ b ∷ i)) v t .1) c o s′ l′) (sym rest) m))
+
   -- ---- a whole frame at the front, and more input after what is lent
   whole : {s s′ : Session} {l l′ : List ℕ} (a b c d m : ℕ) (k j p : List ℕ) (v : Verdict) (t : Reply)
       → a + 256 * b ≡ suc (suc m) → a + 256 * b ≤ maxFrame → m ≤ length k
       → Right s (decode (c + 256 * d) (take m k)) v t
-      → Run work (nextSession s (decode (c + 256 * d) (take m k))) (listLeft work l s (decode (c + 256 * d) (take m k)) v t) (drop m k ++ j) p s′ l′
-      → Run work s l (a ∷ b ∷ c ∷ d ∷ (k ++ j)) (printed work (length l) s (decode (c + 256 * d) (take m k)) v t ++ p) s′ l′
+      → Run work (nextSession s (decode (c + 256 * d) (take m k))) (printing work l s (decode (c + 256 * d) (take m k)) v t .1) (drop m k ++ j) p s′ l′
+      → Run work s l (a ∷ b ∷ c ∷ d ∷ (k ++ j)) (printing work l s (decode (c + 256 * d) (take m k)) v t .0 ++ p) s′ l′
   unfolding number16
   whole a b c d m k j p v t e h x right run =
       let size : a + 256 * b - 2 ≡ m = omega arith in
-      framed-as work a b (c ∷ d ∷ (k ++ j)) (drop m k ++ j) p (decode (c + 256 * d) (take m k)) v t
+      framed-as a b (c ∷ d ∷ (k ++ j)) (drop m k ++ j) p (decode (c + 256 * d) (take m k)) v t
       (rw size (ap (λ (s : List ℕ). decode (c + 256 * d) s) (take-append-le m k j x)))
       (rw e (drop-append-le m k j x))
       (omega arith) h (omega (arith, length-append k j)) right run
@@ -181,8 +194,8 @@ module _ (work : ℕ) where
   frontFrame i n = decode (number16 i 2) (take (n - 4) (drop 4 i))
 
   pub front-run : {s s′ : Session} {l l′ : List ℕ} (i : List ℕ) (n : ℕ) (j p : List ℕ) (v : Verdict) (t : Reply) → Whole i n
-      → Right s (frontFrame i n) v t → Run work (nextSession s (frontFrame i n)) (listLeft work l s (frontFrame i n) v t) (drop n i ++ j) p s′ l′
-      → Run work s l (i ++ j) (printed work (length l) s (frontFrame i n) v t ++ p) s′ l′
+      → Right s (frontFrame i n) v t → Run work (nextSession s (frontFrame i n)) (printing work l s (frontFrame i n) v t .1) (drop n i ++ j) p s′ l′
+      → Run work s l (i ++ j) (printing work l s (frontFrame i n) v t .0 ++ p) s′ l′
   unfolding number16
   front-run [] n j p v t w right run = absurd (omega arith)
   front-run (a ∷ []) n j p v t w right run = absurd (omega arith)
@@ -194,7 +207,11 @@ module _ (work : ℕ) where
       whole a b c d (n - 4) i j p v t (omega arith) (omega arith) (omega arith) right (rw rest at run)
 
   -- ---- a turn
-  stands : (st : State) (s : Session) (l i out : List ℕ) → StateOf st s → GoesOn work s l l i out out (stayed st)
+  abbrev pub GoesOn : Session → List ℕ → List ℕ → List ℕ → List ℕ → List ℕ → Ran → Type 0
+  GoesOn s l l′ i out out′ r = Came out out′ r (λ o s′. (j p : List ℕ) (s″ : Session) (l″ : List ℕ)
+      → Run work s′ l′ (drop (r .read) i ++ j) p s″ l″ → Run work s l (i ++ j) (o ++ p) s″ l″)
+
+  stands : (st : State) (s : Session) (l i out : List ℕ) → StateOf st s → GoesOn s l l i out out (stayed st)
   stands st s l i out h = record { output = []; session = s; wrote = wrote-none 0 out (omega arith); holds = h; runs = λ j p s′ l″ r. r }
 
   pub stays : (st : State) (i l out : List ℕ) → length out < room (length l) → OneTurn st i work l l out out (stayed st)
@@ -246,7 +263,7 @@ module _ (work : ℕ) where
       record {
         advances = record {
           inside = omega (arith, facts);
-          within = turned .within;
+          within = spares-within (turned .spares);
           ends = λ e s h. absurd (both-ways true refl e);
           goes = going;
         };
@@ -267,11 +284,11 @@ module _ (work : ℕ) where
       right = subst (λ (x : ℕ). Turns st (decode x (take (n - 4) (drop 4 i))) work l l′ out out′ f) kind turned
 
       going : true ≡ true → (s : Session) → StateOf st s
-          → GoesOn work s l l′ i out out′ (record { state = f .state; read = n; written = f .written; more = true })
+          → GoesOn s l l′ i out out′ (record { state = f .state; read = n; written = f .written; more = true })
       going e s h =
           let (v, t, judged) = right-exists s (frontFrame i n) (state-steady h) in
           record {
-            output = printed work (length l) s (frontFrame i n) v t;
+            output = printing work l s (frontFrame i n) v t .0;
             session = nextSession s (frontFrame i n);
             wrote = right .prints s h v t judged;
             holds = right .next s h;

@@ -34,7 +34,7 @@ use Rattle.book.specs.Book.{Book, Sheet, Call, edit, undo, close, turned, undon
 use Rattle.book.specs.Book.{fresh, total, totalNumber}
 use Rattle.paths.specs.Grammar.{Verdict}
 use Rattle.paths.specs.Chains.{asked, Reply}
-use Rattle.paths.specs.Questions.{Outcome, ReplyTo, chainAnswer, listAfter}
+use Rattle.paths.specs.Questions.{Outcome, ReplyTo, pairsAnswer, chainAnswer, listAfter}
 use Rattle.paths.specs.Verdicts.{verdict, verdict-only}
 use Rattle.register.specs.declared.Outcome.{Outcome as Told}
 use Rattle.register.specs.Representation.{Represents}
@@ -46,8 +46,8 @@ use Rattle.answers.specs.declared.Counted.{Counted}
 use Rattle.report.specs.Report.{refusedText, answerText, okText, outcomeText}
 use Rattle.answers.specs.Written.{Wrote}
 use Rattle.answers.specs.WrittenLaws.{wrote-as}
-use Rattle.session.specs.Program.{programRecords, Request, Frame, asks, faulty, opening, call, pairs, chain, totalling, Session, unopened, opened}
-use Rattle.session.specs.Program.{shapeOf, fits, called, taken, decode, openAnswer, nextSession, programPairs, Right, printed, listLeft}
+use Rattle.session.specs.Program.{programRecords, Request, Frame, asks, faulty, opens, call, pairs, chain, totalling, Session, unopened, opened}
+use Rattle.session.specs.Program.{shapeOf, fits, called, taken, decode, openAnswer, engineFor, nextSession, Right, printing}
 use Rattle.session.specs.Turns.{StateOf, is-closed, is-open, room, Spares, as-it-was, answered, Turns, Framing}
 use Rattle.session.specs.Listing.{totalSaid, total-said}
 use Rattle.session.specs.declared.Shape.{Shape}
@@ -136,102 +136,103 @@ decode-long k s x y u e = let p = picked (fits (shapeOf k) (length s)) e in take
 module _ (st : State) (work : ℕ) (l l′ out out′ : List ℕ) (r : Framed) where
   -- a frame that says no request
   pub faulty-turns : (c : Cause) → r .state ≡ st → l′ ≡ l → Wrote 0 (refusedText (number c)) out out′ (r .written) → Turns st (faulty c) work l l′ out out′ r
-  unfolding nextSession printed listLeft
+  unfolding nextSession printing
   faulty-turns c kept same w =
-      record { within = w .fits; spares = as-it-was _ w same; next = λ s h. rw kept h; prints = λ s h v t q. w; list = λ s h v t q. same }
+      record { spares = as-it-was _ w same; next = λ s h. rw kept h; prints = λ s h v t q. w; list = λ s h v t q. same }
 
   -- any request but open while no register is opened
   pub closed-turns : (f : Frame) → nextSession unopened f ≡ unopened
-      → ((v : Verdict) (t : Reply) → printed work (length l) unopened f v t ≡ refusedText (number not-open))
-      → ((v : Verdict) (t : Reply) → listLeft work l unopened f v t ≡ l)
+      → ((v : Verdict) (t : Reply) → printing work l unopened f v t .0 ≡ refusedText (number not-open))
+      → ((v : Verdict) (t : Reply) → printing work l unopened f v t .1 ≡ l)
       → st .opened ≡ false → r .state ≡ st → l′ ≡ l → Wrote 0 (refusedText (number not-open)) out out′ (r .written) → Turns st f work l l′ out out′ r
-  closed-turns f n p k shut kept same w = record { within = w .fits; spares = as-it-was _ w same; next = after; prints = told; list = left }
+  closed-turns f n p k shut kept same w = record { spares = as-it-was _ w same; next = after; prints = told; list = left }
     where
       after : (s : Session) → StateOf st s → StateOf (r .state) (nextSession s f)
       after unopened h = rw (n, kept) h
       after (opened b) (is-open up x m) = absurd (both-ways (st .opened) up shut)
 
-      told : (s : Session) → StateOf st s → (v : Verdict) (t : Reply) → Right s f v t → Wrote 0 (printed work (length l) s f v t) out out′ (r .written)
+      told : (s : Session) → StateOf st s → (v : Verdict) (t : Reply) → Right s f v t → Wrote 0 (printing work l s f v t .0) out out′ (r .written)
       told unopened h v t q = rw (p v t) w
       told (opened b) (is-open up x m) v t q = absurd (both-ways (st .opened) up shut)
 
-      left : (s : Session) → StateOf st s → (v : Verdict) (t : Reply) → Right s f v t → l′ ≡ listLeft work l s f v t
+      left : (s : Session) → StateOf st s → (v : Verdict) (t : Reply) → Right s f v t → l′ ≡ printing work l s f v t .1
       left unopened h v t q = same ∙ sym (k v t)
       left (opened b) (is-open up x m) v t q = absurd (both-ways (st .opened) up shut)
 
   -- a request while one is
-  pub open-turns : (f : Frame) → st .opened ≡ true → r .written ≤ length out → Spares l l′ out out′ (r .written)
+  pub open-turns : (f : Frame) → st .opened ≡ true → Spares l l′ out out′ (r .written)
       → ((b : Book) → Represents (st .register) b → b .n ≤ programRecords → StateOf (r .state) (nextSession (opened b) f))
       → ((b : Book) → Represents (st .register) b → (v : Verdict) (t : Reply) → Right (opened b) f v t
-      → Wrote 0 (printed work (length l) (opened b) f v t) out out′ (r .written) × (l′ ≡ listLeft work l (opened b) f v t))
+      → Wrote 0 (printing work l (opened b) f v t .0) out out′ (r .written) × (l′ ≡ printing work l (opened b) f v t .1))
       → Turns st f work l l′ out out′ r
-  open-turns f up inside spared n p =
-      record { within = inside; spares = spared; next = after; prints = λ s h v t q. told s h v t q .0; list = λ s h v t q. told s h v t q .1 }
+  open-turns f up spared n p =
+      record { spares = spared; next = after; prints = λ s h v t q. told s h v t q .0; list = λ s h v t q. told s h v t q .1 }
     where
       after : (s : Session) → StateOf st s → StateOf (r .state) (nextSession s f)
       after unopened (is-closed shut) = absurd (both-ways (st .opened) up shut)
       after (opened b) (is-open o x m) = n b x m
 
       told : (s : Session) → StateOf st s → (v : Verdict) (t : Reply) → Right s f v t
-          → Wrote 0 (printed work (length l) s f v t) out out′ (r .written) × (l′ ≡ listLeft work l s f v t)
+          → Wrote 0 (printing work l s f v t .0) out out′ (r .written) × (l′ ≡ printing work l s f v t .1)
       told unopened (is-closed shut) v t q = absurd (both-ways (st .opened) up shut)
       told (opened b) (is-open o x m) v t q = p b x v t q
 
   -- a refused open keeps the session, an accepted one begins afresh
   pub kept-turns : (n : ℕ) → openAnswer n ≡ number bad-size → r .state ≡ st → l′ ≡ l → Wrote 0 (refusedText (number bad-size)) out out′ (r .written)
-      → Turns st (asks (opening n)) work l l′ out out′ r
-  unfolding nextSession printed listLeft number answerText
+      → Turns st (opens n) work l l′ out out′ r
+  unfolding nextSession printing number answerText
   kept-turns n e kept same w =
-      record { within = w .fits; spares = as-it-was _ w same; next = λ s h. rw (e, kept) h; prints = λ s h v t q. rw e w; list = λ s h v t q. same }
+      record { spares = as-it-was _ w same; next = λ s h. rw (e, kept) h; prints = λ s h v t q. rw e w; list = λ s h v t q. same }
 
   pub fresh-turns : (n : ℕ) → openAnswer n ≡ 0 → n ≤ programRecords → r .state .opened ≡ true → Represents (r .state .register) (fresh n) → l′ ≡ l
-      → Wrote 0 okText out out′ (r .written) → Turns st (asks (opening n)) work l l′ out out′ r
-  unfolding nextSession printed listLeft answerText fresh
+      → Wrote 0 okText out out′ (r .written) → Turns st (opens n) work l l′ out out′ r
+  unfolding nextSession printing answerText fresh
   fresh-turns n e small up x same w =
-      record { within = w .fits; spares = as-it-was _ w same; next = λ s h. rw e (is-open up x small); prints = λ s h v t q. rw e w; list = λ s h v t q. same }
+      record { spares = as-it-was _ w same; next = λ s h. rw e (is-open up x small); prints = λ s h v t q. rw e w; list = λ s h v t q. same }
 
   -- an edit or undo
   pub call-turns : (c : Call) (o : Told) → Steps (st .register) c o → st .opened ≡ true → r .state .opened ≡ true → r .state .register ≡ o .register → l′ ≡ l
       → Wrote 0 (answerText (answerNumber (o .answer))) out out′ (r .written) → Turns st (asks (call c)) work l l′ out out′ r
-  unfolding nextSession printed listLeft
+  unfolding nextSession printing
   call-turns c o steps up up′ kept same w =
-      open-turns (asks (call c)) up (w .fits) (as-it-was _ w same)
+      open-turns (asks (call c)) up (as-it-was _ w same)
       (λ b x m. is-open up′ (rw kept (steps .follows b x)) (omega (arith, next-size b c)))
       (λ b x v t q. (wrote-as (ap answerText (ap answerNumber (steps .answers b x) ∙ number-answer (answer b c))) w, same))
 
   -- the two questions, which leave the session as it was
   pub pairs-turns : (u : List ℕ) (o : Outcome) → st .opened ≡ true → r .state ≡ st → l′ ≡ listAfter o l
-      → ((b : Book) → Represents (st .register) b → (o ≡ programPairs b (verdict u) work (length l))
-      × (l′ ≡ listAfter (programPairs b (verdict u) work (length l)) l))
+      → ((b : Book) → Represents (st .register) b → (o ≡ pairsAnswer (engineFor (b .n)) b (verdict u) work (length l))
+      × (l′ ≡ listAfter (pairsAnswer (engineFor (b .n)) b (verdict u) work (length l)) l))
       → Wrote 0 (outcomeText o) out out′ (r .written) → Turns st (asks (pairs u)) work l l′ out out′ r
-  unfolding nextSession printed listLeft
+  unfolding nextSession printing
   pairs-turns u o up kept left says w =
-      open-turns (asks (pairs u)) up (w .fits) (answered o w left)
+      open-turns (asks (pairs u)) up (answered o w left)
       (λ b x m. rw kept (is-open up x m))
       (λ b x v t q.
-      let same = ap (λ (e : Verdict). programPairs b e work (length l)) (sym (verdict-only q)) in
+      let same = ap (λ (e : Verdict). pairsAnswer (engineFor (b .n)) b e work (length l)) (sym (verdict-only (q .text b u refl refl))) in
       (wrote-as (ap outcomeText (says b x .0 ∙ same)) w, says b x .1 ∙ ap (λ (a : Outcome). listAfter a l) same))
 
   pub chain-turns : (x y : ℕ) (u : List ℕ) (o : Outcome) → st .opened ≡ true → r .state ≡ st → l′ ≡ listAfter o l
       → ((b : Book) → Represents (st .register) b → (t : Reply) → ReplyTo (asked b) (verdict u) x y t
       → (o ≡ chainAnswer b x y (verdict u) t work (length l)) × (l′ ≡ listAfter (chainAnswer b x y (verdict u) t work (length l)) l))
       → Wrote 0 (outcomeText o) out out′ (r .written) → Turns st (asks (chain x y u)) work l l′ out out′ r
-  unfolding nextSession printed listLeft
+  unfolding nextSession printing
   chain-turns x y u o up kept left says w =
-      open-turns (asks (chain x y u)) up (w .fits) (answered o w left)
+      open-turns (asks (chain x y u)) up (answered o w left)
       (λ b h m. rw kept (is-open up h m))
       (λ b h v t q.
-      let e = verdict-only (q .0) in
-      let told = says b h t (subst (λ (d : Verdict). ReplyTo (asked b) d x y t) e (q .1)) in
+      let right = q .reply b x y u refl refl in
+      let e = verdict-only (right .0) in
+      let told = says b h t (subst (λ (d : Verdict). ReplyTo (asked b) d x y t) e (right .1)) in
       let same = ap (λ (d : Verdict). chainAnswer b x y d t work (length l)) (sym e) in
       (wrote-as (ap outcomeText (told .0 ∙ same)) w, told .1 ∙ ap (λ (a : Outcome). listAfter a l) same))
 
   -- asking for a total
   pub total-turns : (x : ℕ) (a : Counted) → Totals (st .register) x a → st .opened ≡ true → r .state ≡ st → l′ ≡ l
       → Wrote 0 (totalSaid a) out out′ (r .written) → Turns st (asks (totalling x)) work l l′ out out′ r
-  unfolding nextSession printed listLeft
+  unfolding nextSession printing
   total-turns x a told up kept same w =
-      open-turns (asks (totalling x)) up (w .fits) (as-it-was _ w same)
+      open-turns (asks (totalling x)) up (as-it-was _ w same)
       (λ b h m. rw kept (is-open up h m))
       (λ b h v t q. (wrote-as (ap totalSaid (told .told b h) ∙ total-said (totalNumber x) (total (b .sheet) x)) w, same))
 

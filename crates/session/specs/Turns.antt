@@ -25,7 +25,7 @@ use Rattle.paths.specs.Questions.{Outcome, listAfter}
 use Rattle.register.specs.Representation.{Represents}
 use Rattle.report.specs.Report.{outcomeText}
 use Rattle.answers.specs.Written.{Wrote}
-use Rattle.session.specs.Program.{programRecords, Frame, Session, unopened, opened, nextSession, Right, printed, listLeft}
+use Rattle.session.specs.Program.{programRecords, Frame, Session, unopened, opened, nextSession, Right, printing}
 use Rattle.session.specs.declared.State.{State}
 use Rattle.session.specs.declared.Framed.{Framed}
 
@@ -45,11 +45,10 @@ pub data Spares (l l′ out out′ : List ℕ) (w : ℕ) : Type 0 where
   answered : (o : Outcome) → Wrote 0 (outcomeText o) out out′ w → l′ ≡ listAfter o l → Spares l l′ out out′ w
 
 pub record Turns (st : State) (f : Frame) (work : ℕ) (l l′ out out′ : List ℕ) (r : Framed) : Type 0 where
-  pub within : r .written ≤ length out
   pub spares : Spares l l′ out out′ (r .written)
   pub next : (s : Session) → StateOf st s → StateOf (r .state) (nextSession s f)
-  pub prints : (s : Session) → StateOf st s → (v : Verdict) (t : Reply) → Right s f v t → Wrote 0 (printed work (length l) s f v t) out out′ (r .written)
-  pub list : (s : Session) → StateOf st s → (v : Verdict) (t : Reply) → Right s f v t → l′ ≡ listLeft work l s f v t
+  pub prints : (s : Session) → StateOf st s → (v : Verdict) (t : Reply) → Right s f v t → Wrote 0 (printing work l s f v t .0) out out′ (r .written)
+  pub list : (s : Session) → StateOf st s → (v : Verdict) (t : Reply) → Right s f v t → l′ ≡ printing work l s f v t .1
 
 pub record Framing (st : State) (f : Frame) (work : ℕ) (l l′ out out′ : List ℕ) (r : Framed) : Type 0 where
   pub nothing : length out < room (length l) → (r .state ≡ st) × (r .written ≡ 0) × (out′ ≡ out) × (l′ ≡ l)

@@ -8,7 +8,7 @@ ghost use Rattle.answers.specs.Written.{Wrote};
 ghost use Rattle.register.specs.Calls.{callOf};
 ghost use Rattle.chains.specs.Replies.{outcomeOf, chainCounted};
 ghost use Rattle.report.specs.Report.{refusedText, outcomeText};
-ghost use Rattle.session.specs.Program.{opening, call as Program·call, pairs, chain, totalling, asks};
+ghost use Rattle.session.specs.Program.{opens, call as Program·call, pairs, chain, totalling, asks};
 ghost use Rattle.session.specs.Turns.{room, Turns};
 ghost use Rattle.session.specs.Listing.{listing, AnswersPairs, totalSaid};
 use crate::Framed;
@@ -35,7 +35,7 @@ pub(crate) fn refuse(state: State, number: u32, out: &mut [u8]) -> Framed
 
 pub(crate) fn open(state: State, n: u16, out: &mut [u8]) -> Framed
     requires { ⌜ 29 ≤ length (now out) ⌝ }
-    ensures { λ r. ⌜ ((work : ℕ) (l : List ℕ) → Turns state (asks (opening n)) work l l (now (out .entry)) (now (out .exit)) r) ⌝ }
+    ensures { λ r. ⌜ ((work : ℕ) (l : List ℕ) → Turns state (opens n) work l l (now (out .entry)) (now (out .exit)) r) ⌝ }
 {
     if n < 1 {
         return refuse(state, book::BAD_SIZE, out);

@@ -45,11 +45,12 @@ use Rattle.register.specs.Representation.{Represents}
 use Rattle.register.specs.Parting.{touches, withoutLinks, withoutRecord}
 use Rattle.register.specs.PartingLaws.{present-without}
 use Rattle.register.specs.declared.Register.{Register}
+use Rattle.query.specs.Asking.{Asks}
 use Rattle.query.specs.AskingLaws.{handed-tells, whole-contained}
 use Rattle.support.specs.declared.Marks.{Marks}
-use Rattle.support.specs.Support.{without, some, chosen, reaches, falls, fallen, orderly, supportWork, fallenOf, supportCauses, supportNumber}
-use Rattle.support.specs.Support.{supportOutcome, SupportsFor}
-use Rattle.support.specs.SupportLaws.{chosen-same}
+use Rattle.support.specs.Support.{without, some, chosen, reaches, falls, fallen, orderly, fallenOf, supportCauses}
+use Rattle.support.specs.Support.{supportOutcome}
+use Rattle.support.specs.SupportLaws.{supportWork, chosen-same}
 use Rattle.rowpairs.specs.Evaluation.{relationIn, RelatingIf}
 use Rattle.rowpairs.specs.RelatingLaws.{relating-refused, relating-made}
 use Rattle.rowpairs.specs.declared.Related.{Related}
@@ -90,14 +91,20 @@ without-graph core b = λ i. record { n = b .n; inUse = in-use i; present = left
     left : _≡_ {A = Link → Bool} (λ k. present (withoutLinks core (b .sheet)) k) (λ k. present (b .sheet) k && not (touches core k))
     left = fun-ext (λ k. present-without core (b .sheet) k)
 
--- ---- the numbers of the question
+-- ---- the promise of a text with the verdict v, and the numbers of the question
+abbrev pub SupportsFor : Register → ℕ → Verdict → List ℕ → ℕ → List ℕ → List ℕ → Counted → Type 0
+SupportsFor r core v anchors work before = Asks (length before) r (λ b. supportOutcome b core v anchors work (length before)) before
+
+abbrev pub supportNumber : Book → ℕ → Verdict → List ℕ → ℕ → ℕ → ℕ
+supportNumber b core v anchors work room = firstNumber (supportCauses b core v anchors work room)
+
 module _ (b : Book) (core : ℕ) (v : Verdict) (anchors : List ℕ) (work room : ℕ) where
   pub number-core : b .n ≤ core → supportNumber b core v anchors work room ≡ 2
-  unfolding supportNumber supportCauses firstNumber number
+  unfolding supportCauses firstNumber number
   number-core h = rw (le-leb (b .n) core h)
 
   pub number-beyond : some (leb (b .n)) anchors ≡ true → supportNumber b core v anchors work room ≡ 2
-  unfolding supportNumber supportCauses firstNumber number
+  unfolding supportCauses firstNumber number
   number-beyond h = rw h (go (leb (b .n) core) _)
     where
       go : (t : Bool) (k : ℕ) → pick (t || true) 2 k ≡ 2
@@ -106,14 +113,14 @@ module _ (b : Book) (core : ℕ) (v : Verdict) (anchors : List ℕ) (work room :
 
   module _ (c : core < b .n) (a : some (leb (b .n)) anchors ≡ false) where
     pub number-unordered : orderly 0 anchors ≡ false → supportNumber b core v anchors work room ≡ 20
-    unfolding supportNumber supportCauses firstNumber number
+    unfolding supportCauses firstNumber number
     number-unordered h = rw (lt-leb (b .n) core c, a, h)
 
     -- with a core and anchors that are not refused
     number-rest : orderly 0 anchors ≡ true
         → supportNumber b core v anchors work room
         ≡ firstNumber (verdictCause v ++ ((short-work, ltb work (supportWork (b .n))) ∷ (short-list, ltb room (length (fallenOf b v core anchors))) ∷ []))
-    unfolding supportNumber supportCauses firstNumber
+    unfolding supportCauses firstNumber
     number-rest h = rw (lt-leb (b .n) core c, a, h)
 
 -- of a text and work that are refused, the number does not hang on what follows

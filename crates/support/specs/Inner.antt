@@ -5,9 +5,9 @@
 --                     asked of what is known of a book: the number of a refusal is a cause's; for every book of which it is known, it is the one of the pair
 --                     question, and with none the records below n are marked that have a chain to some anchor
 --   Compares known core n v anchors work before after a
---                     what `Support` `SupportsFor` says, of a core and anchors that are not refused and with the work of a pair question alone
+--                     what `Support` `Supports` says, of a core and anchors that are not refused and with the work of a pair question alone
 --   Comparing marks links core anchors
---                        what is asked is about records that there are: the core is one, and so are the anchors, which ascend
+--                     what is asked is about records that there are: the core is one, and so are the anchors, which ascend
 -- Assumes nothing: these are definitions.
 use mathlib.Core.Path.{_≡_}
 use mathlib.Core.List.{List}
@@ -24,7 +24,8 @@ use Rattle.paths.specs.Relations.{cells}
 use Rattle.answers.specs.Answers.{counted, Contained}
 use Rattle.answers.specs.declared.Counted.{Counted}
 use Rattle.paths.specs.Questions.{by-trees, pairsWork, pairsCauses, Tells}
-use Rattle.support.specs.Support.{reaches, supportWork, supportOutcome, some, orderly}
+use Rattle.support.specs.Support.{reaches, supportOutcome, some, orderly}
+use Rattle.support.specs.SupportLaws.{supportWork}
 use Rattle.support.specs.declared.Marks.{Marks}
 
 unfoldable pub lost : List Bool → List Bool → ℕ → ℕ → Bool

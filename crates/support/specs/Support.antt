@@ -10,17 +10,13 @@
 --   reaches c anchors x  whether the set of pairs c joins x to some anchor, computed
 --   falls, fallen        whether a record falls, computed; that list, computed
 --   orderly m l          whether the numbers of l ascend, each once, the first at least m, computed
---   supportWork n        the words of work that are needed: 32 × D + 64 × n
 --   fallenOf b v core anchors
 --                        the answer asked of the book b, if the text is an expression
---   supportCauses, supportNumber
---                        the causes against the question, in their order, and the number of the first, or 0
---   supportOutcome b core v anchors work room
---                        its outcome with so many words of work and room for so many in the list: the records that fall, all of them
---   SupportsFor r core v anchors work before after a
---                        asked of the register r with a text of the verdict v, so many words of work and a list that held `before`
+--   supportCauses, supportOutcome b core v anchors work room
+--                        the causes against the question, in their order, and its outcome with a text of the verdict v, so many words of work and room for so
+--                        many in the list: the records that fall, all of them. The work is that of a pair question and of a chain question, 32 × D + 64 × n
 --   Supports r core text anchors work before after a
---                        the same of a text
+--                        asked of the register r, with so many words of work and a list that held `before`
 -- Assumes nothing: these are definitions.
 use mathlib.Core.Path.{_≡_}
 use mathlib.Core.List.{List, [], _∷_, _++_}
@@ -57,8 +53,7 @@ pub record Falls (g : Graph) (e : Expr) (core : ℕ) (anchors : List ℕ) (x : �
 
 pub record FallenAre (g : Graph) (e : Expr) (core : ℕ) (anchors l : List ℕ) : Type 0 where
   pub ascending : Rises 0 l
-  pub sound : (x : ℕ) → In x l → Falls g e core anchors x
-  pub whole : (x : ℕ) → Falls g e core anchors x → In x l
+  pub same : (x : ℕ) → (In x l → Falls g e core anchors x) × (Falls g e core anchors x → In x l)
 
 -- ---- the same, computed
 unfoldable pub some : (ℕ → Bool) → List ℕ → Bool
@@ -83,34 +78,24 @@ unfoldable pub orderly : ℕ → List ℕ → Bool
 orderly m [] = true
 orderly m (x ∷ l) = leb m x && orderly (suc x) l
 
-abbrev pub supportWork : ℕ → ℕ
-supportWork n = pairsWork n + chainWork n
-
 unfoldable pub fallenOf : Book → Verdict → ℕ → List ℕ → List ℕ
 fallenOf b (accepted e) core anchors = fallen (asked b) e core anchors
 fallenOf b long core anchors = []
 fallenOf b outside core anchors = []
 fallenOf b large core anchors = []
 
-module _ (b : Book) (core : ℕ) (v : Verdict) (anchors : List ℕ) (work room : ℕ) where
-  unfoldable pub supportCauses : List (Cause × Bool)
-  supportCauses =
-      (no-record, leb (b .n) core || some (leb (b .n)) anchors) ∷
-      (unordered-anchors, not (orderly 0 anchors)) ∷
-      (verdictCause v ++ (
-      (short-work, ltb work (supportWork (b .n))) ∷
-      (short-list, ltb room (length (fallenOf b v core anchors))) ∷ []))
-
-  unfoldable pub supportNumber : ℕ
-  supportNumber = firstNumber supportCauses
+unfoldable pub supportCauses : Book → ℕ → Verdict → List ℕ → ℕ → ℕ → List (Cause × Bool)
+supportCauses b core v anchors work room =
+    (no-record, leb (b .n) core || some (leb (b .n)) anchors) ∷
+    (unordered-anchors, not (orderly 0 anchors)) ∷
+    (verdictCause v ++ (
+    (short-work, ltb work (pairsWork (b .n) + chainWork (b .n))) ∷
+    (short-list, ltb room (length (fallenOf b v core anchors))) ∷ []))
 
 unfoldable pub supportOutcome : Book → ℕ → Verdict → List ℕ → ℕ → ℕ → Outcome
 supportOutcome b core v anchors work room =
-    unless (supportNumber b core v anchors work room) (paired (length (fallenOf b v core anchors)) (fallenOf b v core anchors))
+    unless (firstNumber (supportCauses b core v anchors work room)) (paired (length (fallenOf b v core anchors)) (fallenOf b v core anchors))
 
 -- ---- the promise
-abbrev pub SupportsFor : Register → ℕ → Verdict → List ℕ → ℕ → List ℕ → List ℕ → Counted → Type 0
-SupportsFor r core v anchors work before after a = Asks (length before) r (λ b. supportOutcome b core v anchors work (length before)) before after a
-
 abbrev pub Supports : Register → ℕ → List ℕ → List ℕ → ℕ → List ℕ → List ℕ → Counted → Type 0
-Supports r core text anchors work before after a = SupportsFor r core (verdict text) anchors work before after a
+Supports r core text anchors work before = Asks (length before) r (λ b. supportOutcome b core (verdict text) anchors work (length before)) before

@@ -1,4 +1,5 @@
 -- Laws of sole support: the computed answer is what the definition says, and nothing else is; the order of its causes.
+--   supportWork n         the words of work that are needed: 32 × D + 64 × n
 --   some-in, in-some      some member of a list passes a test exactly if one does
 --   in-chosen, chosen-in, chosen-rises, chosen-same
 --                         the numbers below n that pass a test, ascending; tests that agree below n choose alike
@@ -18,7 +19,7 @@ use mathlib.Core.Path.{_≡_, refl, sym, ap, ap₂, _∙_, subst}
 use mathlib.Core.Logic.{⊎-elim}
 use mathlib.Core.List.{List, [], _∷_, _++_, append-nil}
 use mathlib.Core.Bool.{Bool, true, false, not, _||_, _&&_, false≢true, true≢false}
-use Prim.Native.Nat.{ℕ, zero, suc, _≤_, _<_}
+use Prim.Native.Nat.{ℕ, zero, suc, _+_, _≤_, _<_}
 use native.Mathlib.Omega.{arith}
 use lib.ListN.{length}
 use lib.Dec.{leb, ltb, eqb}
@@ -36,9 +37,14 @@ use Rattle.paths.specs.Relations.{cells}
 use Rattle.paths.specs.ChainLaws.{Inside}
 use Rattle.paths.specs.RelationLaws.{cells-is}
 use Rattle.paths.specs.PairLaws.{history-inside, text-in-order}
+use Rattle.paths.specs.Questions.{pairsWork, chainWork}
 use Rattle.register.specs.Parting.{touches}
-use Rattle.support.specs.Support.{without, Held, Falls, FallenAre, some, chosen, reaches, falls, fallen, orderly, supportWork, fallenOf}
+use Rattle.support.specs.Support.{without, Held, Falls, FallenAre, some, chosen, reaches, falls, fallen, orderly, fallenOf}
 use Rattle.support.specs.Support.{supportCauses}
+
+-- the words of work that are needed
+abbrev pub supportWork : ℕ → ℕ
+supportWork n = pairsWork n + chainWork n
 
 -- ---- tests of members
 pub some-in : (t : ℕ → Bool) (l : List ℕ) → some t l ≡ true → (x : ℕ) × In x l × (t x ≡ true)
@@ -168,17 +174,19 @@ module _ (g : Graph) (I : Inside g) (e : Expr) (core : ℕ) (anchors : List ℕ)
   unfolding fallen
   fallen-are = record {
     ascending = chosen-rises (falls g e core anchors) (g .n);
-    sound = λ x h. computed-falls x (in-chosen (falls g e core anchors) (g .n) h .1);
-    whole = λ x F. chosen-in (falls g e core anchors) (g .n) x (I .below x (F .held .2 .1 .begins)) (falls-computed x F);
+    same = λ x. (
+      λ h. computed-falls x (in-chosen (falls g e core anchors) (g .n) h .1),
+      λ F. chosen-in (falls g e core anchors) (g .n) x (I .below x (F .held .2 .1 .begins)) (falls-computed x F),
+    );
   }
 
   pub fallen-only : (l : List ℕ) → FallenAre g e core anchors l → l ≡ fallen g e core anchors
   fallen-only l p =
       let q = fallen-are in
-      rises-same l (fallen g e core anchors) (p .ascending) (q .ascending) (λ x h. q .whole x (p .sound x h)) (λ x h. p .whole x (q .sound x h))
+      rises-same l (fallen g e core anchors) (p .ascending) (q .ascending) (λ x h. q .same x .1 (p .same x .0 h)) (λ x h. p .same x .1 (q .same x .0 h))
 
   pub core-never : In core (fallen g e core anchors) → ⊥
-  core-never h = fallen-are .sound core h .other refl
+  core-never h = fallen-are .same core .0 h .other refl
 
 pub history-fallen : (n : ℕ) → n ≤ maxRecords → (cs : List Call) (e : Expr) (core : ℕ) (anchors : List ℕ)
     → FallenAre (asked (after (fresh n) cs)) e core anchors (fallen (asked (after (fresh n) cs)) e core anchors)

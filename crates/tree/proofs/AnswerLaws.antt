@@ -26,8 +26,8 @@ use Rattle.k2.specs.SizeLaws.{treeWords-most}
 use Rattle.answers.specs.Answers.{answered, overUnless, Handed, Whole, FirstPart}
 use Rattle.answers.specs.declared.Counted.{Counted}
 use Rattle.answers.specs.declared.Counted.the-variants.{Refused}
-use Rattle.tree.specs.Calls.{allBelow, allFormed, lentCauses, treeCauses, Answered, Listed}
-use Rattle.tree.specs.CallLaws.{all-below, below-all, two-formed, lent-met, tree-refused, tree-accepted}
+use Rattle.tree.specs.Calls.{allBelow, allFormed, lentCauses, Answered, Listed}
+use Rattle.tree.specs.CallLaws.{treeCauses, all-below, below-all, two-formed, lent-met, tree-refused, tree-accepted}
 
 -- ---- the tests, which are those of the causes
 same-test : {P : Type 0} (s t : Bool) → (s ≡ true → P) → (P → s ≡ true) → (t ≡ true → P) → (P → t ≡ true) → s ≡ t

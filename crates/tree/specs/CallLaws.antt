@@ -6,13 +6,14 @@
 --                         whether one or two lent trees are well formed
 --   lent-size, lent-pairs, lent-trees, lent-work, lent-none
 --                         the number of the first cause against what is lent
+--   treeCauses            the causes of all: against what is lent, and that the answer is longer than its list
 --   lent-met              what no cause leaves
 --   tree-refused, tree-accepted
 --                         the number of the first cause of all
 --   causes-in-order       the causes are those of `treeOrder`, in that order
 -- Assumes nothing.
 use mathlib.Core.Path.{_≡_, refl}
-use mathlib.Core.List.{List, [], _∷_}
+use mathlib.Core.List.{List, [], _∷_, _++_}
 use mathlib.Core.Bool.{Bool, true, false, _&&_, _||_, not}
 use Prim.Native.Nat.{ℕ, zero, suc, _*_, _/_, _%_, _≤_, _<_}
 use native.Mathlib.Omega.{arith}
@@ -31,7 +32,7 @@ use Rattle.k2.specs.TreeLaws.{tree-none}
 use Rattle.k2.specs.TreeSets.{formed}
 use Rattle.k2.specs.TreeSetLaws.{formed-tree, tree-formed}
 use Rattle.packing.specs.declared.loading.Sense.the-variants.{Inverted}
-use Rattle.tree.specs.Calls.{senseOf, allBelow, allFormed, lentCauses, treeCauses}
+use Rattle.tree.specs.Calls.{senseOf, allBelow, allFormed, lentCauses}
 
 pub sense-other : (w : ℕ) → (w ≡ 0 → ⊥) → Inverted ≡ senseOf w
 sense-other zero f = absurd (f refl)
@@ -111,6 +112,9 @@ first-off false false true d q = absurd (omega arith)
 first-off false false false true q = absurd (omega arith)
 first-off false false false false q = (refl, refl, refl, refl)
 
+abbrev pub treeCauses : ℕ → List ℕ → List (List ℕ) → ℕ → List ℕ → ℕ → List (Cause × Bool)
+treeCauses n ps ts k xs room = lentCauses n ps ts k ++ ((short-list, ltb room (length xs)) ∷ [])
+
 module _ (n : ℕ) (ps : List ℕ) (ts : List (List ℕ)) (k : ℕ) where
   abbrev sized : Bool
   sized = ltb n 1 || ltb maxRecords n
@@ -135,15 +139,15 @@ module _ (n : ℕ) (ps : List ℕ) (ts : List (List ℕ)) (k : ℕ) where
 
   module _ (xs : List ℕ) (room : ℕ) where
     pub tree-refused : {m : ℕ} → firstNumber (lentCauses n ps ts k) ≡ suc m → firstNumber (treeCauses n ps ts k xs room) ≡ suc m
-    unfolding lentCauses treeCauses
+    unfolding lentCauses
     tree-refused e = first-on sized (not (allBelow n ps)) (not (allFormed n ts)) short (ltb room (length xs)) e
 
     pub tree-accepted : firstNumber (lentCauses n ps ts k) ≡ 0 → firstNumber (treeCauses n ps ts k xs room) ≡ pick (ltb room (length xs)) (number short-list) 0
-    unfolding lentCauses treeCauses firstNumber
+    unfolding lentCauses firstNumber
     tree-accepted e = let o = lent-off e in rw (o .0, o .1, o .2, o .3) refl
 
     pub causes-in-order : InOrder (treeCauses n ps ts k xs room) treeOrder
-    unfolding lentCauses treeCauses treeOrder
+    unfolding lentCauses treeOrder
     causes-in-order = same-cause (same-cause (same-cause (same-cause (same-cause none-left))))
 
 -- what no cause leaves of two lent trees

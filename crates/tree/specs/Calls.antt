@@ -7,16 +7,12 @@
 --   allBelow n ps         whether both ends of each pair of ps are below n, as `PairsBelow` has it (CallLaws `all-below`, `below-all`)
 --   allFormed n ts        whether each of the lent trees ts is well formed
 --   lentCauses n ps ts k  the causes against what is lent: n, the pairs ps, the trees ts, and k words of work
---   treeCauses n ps ts k xs room
---                         these, and that the answer xs is longer than its list, which has room for so many words
 --   Answered n ps ts k xs before after r
---                         the answer r of a call that was lent these and whose answer is xs, and its list, which held `before` and holds `after`
+--                         the answer r of a call that was lent these and whose answer is xs, and its list, which held `before` and holds `after`: refused for
+--                         what is lent, or because xs is longer than the list
 --   Listed n ts k xs before after r
 --                         the same of a call whose answer is the pairs xs: those that the list takes, and their number
---   treeOf n ps           the tree of the pairs ps
---   listOf n t            the pairs of the tree t, ascending
---   treeOfOne op n t, treeOfTwo op n t u
---                         the tree of what op makes of the set of the tree t, or of the sets of t and u
+--   treeOfTwo op n t u    the tree of what op makes of the sets of the trees t and u
 -- Assumes nothing: these are definitions.
 use mathlib.Core.List.{List, [], _∷_, _++_}
 use mathlib.Core.Bool.{Bool, true, _&&_, _||_, not}
@@ -24,7 +20,7 @@ use Prim.Native.Nat.{ℕ, zero, suc, _*_, _/_, _%_}
 use lib.Dec.{ltb}
 use lib.ListN.{length, take}
 use Rattle.book.specs.Causes.{Cause, bad-size, no-record, bad-tree, short-work, short-list, firstNumber, maxRecords}
-use Rattle.k2.specs.PairSets.{Cells, setOf, listed, product}
+use Rattle.k2.specs.PairSets.{Cells, product}
 use Rattle.k2.specs.Trees.{treeWords, treeUnit}
 use Rattle.k2.specs.TreeSets.{setIn, formed}
 use Rattle.packing.specs.declared.loading.Sense.{Sense}
@@ -55,23 +51,11 @@ lentCauses n ps ts k =
     (bad-tree, not (allFormed n ts)) ∷
     (short-work, ltb k (32 * treeUnit n)) ∷ []
 
-unfoldable pub treeCauses : ℕ → List ℕ → List (List ℕ) → ℕ → List ℕ → ℕ → List (Cause × Bool)
-treeCauses n ps ts k xs room = lentCauses n ps ts k ++ ((short-list, ltb room (length xs)) ∷ [])
-
 pub record Answered (n : ℕ) (ps : List ℕ) (ts : List (List ℕ)) (k : ℕ) (xs before after : List ℕ) (r : Counted) : Type 0 where
-  pub handed : Handed (firstNumber (treeCauses n ps ts k xs (length before))) xs xs before after r
+  pub handed : Handed (firstNumber (lentCauses n ps ts k ++ ((short-list, ltb (length before) (length xs)) ∷ []))) xs xs before after r
 
 pub record Listed (n : ℕ) (ts : List (List ℕ)) (k : ℕ) (xs before after : List ℕ) (r : Counted) : Type 0 where
   pub handed : Handed (firstNumber (lentCauses n [] ts k)) xs (take (length before) xs) before after r
-
-abbrev pub treeOf : ℕ → List ℕ → List ℕ
-treeOf n ps = treeWords n (setOf ps)
-
-abbrev pub listOf : ℕ → List ℕ → List ℕ
-listOf n t = listed n (setIn n t)
-
-abbrev pub treeOfOne : (Cells → Cells) → ℕ → List ℕ → List ℕ
-treeOfOne op n t = treeWords n (op (setIn n t))
 
 abbrev pub treeOfTwo : (Cells → Cells → Cells) → ℕ → List ℕ → List ℕ → List ℕ
 treeOfTwo op n t u = treeWords n (op (setIn n t) (setIn n u))

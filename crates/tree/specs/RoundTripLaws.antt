@@ -17,12 +17,13 @@ use Rattle.book.specs.ListLaws.{in-none}
 use Rattle.k2.specs.PairSets.{Cells, IsSet, listed, setOf, pairWord, PairsBelow}
 use Rattle.k2.specs.PairSetLaws.{setOf-set, setOf-listed, set-in, in-set, in-listed, listed-in, listed-rises, listed-below}
 use Rattle.k2.specs.Trees.{treeWords, treeUnit, WellFormed}
+use Rattle.k2.specs.TreeSets.{setIn}
 use Rattle.k2.specs.TreeSetLaws.{formed-set}
 use Rattle.answers.specs.Answers.{answered, overUnless}
 use Rattle.answers.specs.declared.Counted.{Counted}
 use Rattle.answers.specs.declared.Counted.the-variants.{Count}
-use Rattle.tree.specs.Calls.{allFormed, lentCauses, treeCauses, Answered, Listed, treeOf, listOf}
-use Rattle.tree.specs.CallLaws.{below-all, one-formed, lent-none, tree-accepted}
+use Rattle.tree.specs.Calls.{allFormed, lentCauses, Answered, Listed}
+use Rattle.tree.specs.CallLaws.{treeCauses, below-all, one-formed, lent-none, tree-accepted}
 use Rattle.tree.specs.RoundTrips.{answerWords, MakeList, ListMake}
 
 -- ---- a call with space enough is not refused
@@ -61,16 +62,13 @@ make-list n work work′ ps out out′ list list′ v u b E A B =
     let is : IsSet n (setOf ps) = setOf-set n ps (E .few) b in
     let x = enough (E .some) (E .few) b (no-tree n) (E .first) (E .words) A in
     let F : WellFormed n (answerWords v out′) = record { set = setOf ps; is-set = is; tree = x .1 } in
-    let s : listOf n (answerWords v out′) ≡ listed n (setOf ps) = ap (listed n) (formed-set F) in
+    let s : listed n (setIn n (answerWords v out′)) ≡ listed n (setOf ps) = ap (listed n) (formed-set F) in
     let z =
     enough-list (E .some) (E .few) (one-formed n (answerWords v out′) F) (E .second) (subst (λ (l : List ℕ). length l ≤ length list) (sym s) (E .pairs)) B in
     let y : (u ≡ Count (length (listed n (setOf ps)))) × (answerWords u list′ ≡ listed n (setOf ps)) =
     (z .0 ∙ ap (λ (l : List ℕ). Count (length l)) s, z .1 ∙ s) in
     record {
-      made = x .0;
-      told = y .0;
-      tree = x .1;
-      pairs = y .1;
+      answers = record { told = y .0; made = x .0; pairs = y .1; tree = x .1 };
       rises = rw (y .1) (listed-rises n (setOf ps) (E .few));
       same = λ w. rw (y .1) (
         λ i. let r = in-listed n (setOf ps) i in subst (λ (v : ℕ). In v ps) (sym (r .5)) (set-in ps (r .0) (r .1) (r .4)),
@@ -89,10 +87,11 @@ make-list n work work′ ps out out′ list list′ v u b E A B =
 pub list-make : ListMake
 list-make n work work′ t out out′ list list′ u v F E A B =
     let a : Cells = F .set in
-    let q : listOf n t ≡ listed n a = ap (listed n) (formed-set F) in
+    let q : listed n (setIn n t) ≡ listed n a = ap (listed n) (formed-set F) in
     let x = enough-list (E .some) (E .few) (one-formed n t F) (E .first) (subst (λ (l : List ℕ). length l ≤ length list) (sym q) (E .pairs)) A in
     let p : answerWords u list′ ≡ listed n a = x .1 ∙ q in
-    let s : treeOf n (answerWords u list′) ≡ t = ap (treeOf n) p ∙ ap (treeWords n) (setOf-listed n a (E .few) (F .is-set)) ∙ sym (F .tree) in
+    let s : treeWords n (setOf (answerWords u list′)) ≡ t =
+    ap (λ (l : List ℕ). treeWords n (setOf l)) p ∙ ap (treeWords n) (setOf-listed n a (E .few) (F .is-set)) ∙ sym (F .tree) in
     let b : PairsBelow n (answerWords u list′) = subst (PairsBelow n) (sym p) (listed-below n a (E .few)) in
     let y = enough (E .some) (E .few) b (no-tree n) (E .second) (subst (λ (l : List ℕ). length l ≤ length out) (sym (s ∙ F .tree)) (E .words)) B in
     record { told = x .0 ∙ ap (λ (l : List ℕ). Count (length l)) q; made = y .0 ∙ ap (λ (l : List ℕ). Count (length l)) s; pairs = p; tree = y .1 ∙ s }

@@ -20,8 +20,8 @@ use Rattle.packing.specs.Senses.{sensed}
 use Rattle.answers.specs.Answers.{answered, overUnless}
 use Rattle.answers.specs.declared.Counted.{Counted}
 use Rattle.answers.specs.declared.Counted.the-variants.{Count, Refused}
-use Rattle.tree.specs.Calls.{allBelow, allFormed, lentCauses, treeCauses, Answered}
-use Rattle.tree.specs.CallLaws.{one-more, two-formed, lent-trees, lent-met, tree-refused}
+use Rattle.tree.specs.Calls.{allBelow, allFormed, lentCauses, Answered}
+use Rattle.tree.specs.CallLaws.{treeCauses, one-more, two-formed, lent-trees, lent-met, tree-refused}
 use Rattle.tree.specs.SensedProducts.{Transposed, as-it-is, written, ProductSensed, DamagedRefused}
 
 -- ---- a call that is accepted
@@ -69,7 +69,6 @@ same-causes n k t u t′ u′ e f = rw (e, f) refl
 -- ---- two calls with the same causes and the same answer
 same-answer : {n k : ℕ} {ps xs ys before after after′ : List ℕ} {ts us : List (List ℕ)} {r r′ : Counted} → lentCauses n ps ts k ≡ lentCauses n ps us k → xs ≡ ys
     → Answered n ps ts k xs before after r → Answered n ps us k ys before after′ r′ → (r ≡ r′) × (after ≡ after′)
-unfolding treeCauses
 same-answer {n} {k} {ps} {xs} {ys} {before} {ts = ts} {us} e f A B =
     let c : firstNumber (treeCauses n ps ts k xs (length before)) ≡ firstNumber (treeCauses n ps us k ys (length before)) = rw (e, f) refl in (
       A .handed .answer ∙ ap₂ (λ (c : ℕ) (l : List ℕ). answered c (length l)) c f ∙ sym (B .handed .answer),

@@ -12,15 +12,17 @@ use Prim.Native.Nat.{ℕ, _≤_}
 use lib.ListN.{take}
 use Rattle.book.specs.Causes.{bad-tree, number, maxRecords}
 use Rattle.k2.specs.PairSets.{transpose}
+use Rattle.k2.specs.Trees.{treeWords}
+use Rattle.k2.specs.TreeSets.{setIn}
 use Rattle.packing.specs.declared.loading.Sense.{Sense}
 use Rattle.packing.specs.declared.loading.Sense.the-variants.{Plain, Inverted}
 use Rattle.answers.specs.declared.Counted.{Counted}
 use Rattle.answers.specs.declared.Counted.the-variants.{Count, Refused}
-use Rattle.tree.specs.Calls.{productSensed, allFormed, Answered, treeOfOne, treeOfTwo}
+use Rattle.tree.specs.Calls.{productSensed, allFormed, Answered, treeOfTwo}
 
 pub data Transposed (n : ℕ) (t t′ : List ℕ) : Sense → Type 0 where
   as-it-is : t′ ≡ t → Transposed n t t′ Plain
-  written : {k m : ℕ} {out out′ : List ℕ} → Answered n [] (t ∷ []) k (treeOfOne transpose n t) out out′ (Count m) → t′ ≡ take m out′
+  written : {k m : ℕ} {out out′ : List ℕ} → Answered n [] (t ∷ []) k (treeWords n (transpose (setIn n t))) out out′ (Count m) → t′ ≡ take m out′
       → Transposed n t t′ Inverted
 
 abbrev pub ProductSensed : Type 0

@@ -15,14 +15,15 @@ ghost use Prim.Native.Nat.{_≤_};
 ghost use lib.ListN.{length, take};
 ghost use Rattle.book.specs.Causes.{firstNumber, maxRecords};
 ghost use Rattle.k2.specs.Sizes.{mostTreeWords};
-ghost use Rattle.k2.specs.PairSets.{Cells, IsSet, listed, union, intersection, difference, transpose, closure, PairsBelow};
+ghost use Rattle.k2.specs.PairSets.{Cells, IsSet, setOf, listed, union, intersection, difference, transpose, closure, PairsBelow};
 ghost use Rattle.k2.specs.Trees.{treeWords};
+ghost use Rattle.k2.specs.TreeSets.{setIn};
 ghost use Rattle.bits.specs.BitSets.{none};
 ghost use Rattle.rows.specs.RowSets.{noPairs};
 ghost use Rattle.packing.specs.Senses.{sensed};
 ghost use Rattle.tree.specs.Inner.{treeAlone, outcome, Roomy, Lent, termSet, TreeAt};
 ghost use Rattle.answers.specs.Answers.{Whole, FirstPart};
-ghost use Rattle.tree.specs.Calls.{senseOf, productSensed, lentCauses, Answered, Listed, treeOf, listOf, treeOfOne, treeOfTwo};
+ghost use Rattle.tree.specs.Calls.{senseOf, productSensed, lentCauses, Answered, Listed, treeOfTwo};
 
 // A pair word is from times this, and to.
 const PAIR_UNIT: u32 = book::MAX_RECORDS as u32;
@@ -171,7 +172,7 @@ fn unary(
     work: &mut [u64],
 ) -> Counted
     ensures { λ r. ⌜ Answered n [] (now (a .entry) ∷ []) (length (now (work .entry)))
-        (treeOfOne (λ x. outcome operation n none noPairs (sensed sense x)) n (now (a .entry))) (now (out .entry)) (now (out .exit)) r ⌝ }
+        (treeWords n (outcome operation n none noPairs (sensed sense (setIn n (now (a .entry)))))) (now (out .entry)) (now (out .exit)) r ⌝ }
 {
     let no_links: [u32; 1] = [0; 1];
     let cause = refusal(n, &no_links[..0], a, &a[..0], work.len());
@@ -231,7 +232,7 @@ pub fn product(
 // The tree of the pairs exchanged.
 pub fn transpose(n: usize, a: &[u64], out: &mut [u64], work: &mut [u64]) -> Counted
     ensures { λ r. ⌜ Answered n [] (now (a .entry) ∷ []) (length (now (work .entry)))
-        (treeOfOne transpose n (now (a .entry))) (now (out .entry)) (now (out .exit)) r ⌝ }
+        (treeWords n (transpose (setIn n (now (a .entry))))) (now (out .entry)) (now (out .exit)) r ⌝ }
 {
     unary(Operation::Union, n, a, Sense::Inverted, out, work)
 }
@@ -239,7 +240,7 @@ pub fn transpose(n: usize, a: &[u64], out: &mut [u64], work: &mut [u64]) -> Coun
 // The tree of the closure: one or more pairs that lead from one to the other.
 pub fn closure(n: usize, a: &[u64], out: &mut [u64], work: &mut [u64]) -> Counted
     ensures { λ r. ⌜ Answered n [] (now (a .entry) ∷ []) (length (now (work .entry)))
-        (treeOfOne (closure n) n (now (a .entry))) (now (out .entry)) (now (out .exit)) r ⌝ }
+        (treeWords n (closure n (setIn n (now (a .entry))))) (now (out .entry)) (now (out .exit)) r ⌝ }
 {
     unary(Operation::Closure, n, a, Sense::Plain, out, work)
 }
@@ -247,7 +248,7 @@ pub fn closure(n: usize, a: &[u64], out: &mut [u64], work: &mut [u64]) -> Counte
 // The tree of a list of pair words, in any order and with repeats.
 pub fn make(n: usize, pairs: &[u32], out: &mut [u64], work: &mut [u64]) -> Counted
     ensures { λ r. ⌜ Answered n (now (pairs .entry)) [] (length (now (work .entry)))
-        (treeOf n (now (pairs .entry))) (now (out .entry)) (now (out .exit)) r ⌝ }
+        (treeWords n (setOf (now (pairs .entry)))) (now (out .entry)) (now (out .exit)) r ⌝ }
 {
     let none: [u64; 1] = [0; 1];
     let empty = &none[..0];
@@ -282,7 +283,7 @@ fn list_pairs(tree: &[u64], n: usize, out: &mut [u32]) -> Counted
 // The pairs of a tree, ascending, as many as the list takes; how many they are in all.
 pub fn list(n: usize, a: &[u64], out: &mut [u32], work: &mut [u64]) -> Counted
     ensures { λ r. ⌜ Listed n (now (a .entry) ∷ []) (length (now (work .entry)))
-        (listOf n (now (a .entry))) (now (out .entry)) (now (out .exit)) r ⌝ }
+        (listed n (setIn n (now (a .entry)))) (now (out .entry)) (now (out .exit)) r ⌝ }
 {
     let none: [u32; 1] = [0; 1];
     let cause = refusal(n, &none[..0], a, &a[..0], work.len());

@@ -80,7 +80,7 @@ returns-2 c =
         pairs = asked .book _ (p .book z);
         chain = lent long replied .answers _ (p .book z);
         demand =
-            claims _
+            claims _ _
             (record {
               size = after-links .before .size .ensures;
               links = (_, after-links .links .ensures, refl);

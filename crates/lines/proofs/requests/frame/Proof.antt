@@ -5,7 +5,8 @@ use native.Mathlib.Omega.{arith}
 use denote.Ref.{now}
 use Rattle.answers.specs.WrittenLaws.{wrote-as, wrote-none}
 use Rattle.session.specs.Program.{shapeOf}
-use Rattle.lines.specs.Typed.{word, rest, argued, requested, begun, typed}
+use Rattle.lines.specs.Typed.{word, rest, argued, begun, typed}
+use Rattle.lines.specs.TypedLaws.{requested}
 use Rattle.lines.specs.Encoding.{sent}
 use Rattle.lines.specs.SaidLaws.{typed-long, typed-short, begun-none, begun-comment, begun-request}
 use borrow.Author.Needs.{needs}
@@ -41,7 +42,6 @@ returns-3 c =
     wrote-as (ap sent (sym (from-word ∙ begun-comment t (c .if3 .taken)))) (wrote-none 0 (now (a .out)) (omega arith))
 
 returns-4 : tie.Need-returns-4
-unfolding requested
 returns-4 c =
     let after-rest = c .before .before .before .before in
     let after-kind = after-rest .before in

@@ -5,7 +5,7 @@ use borrow.Author.Tests.{not-true, not-false}
 use denote.Ref.{now}
 use lib.ListN.{length}
 use Rattle.book.specs.Causes.{number}
-use Rattle.session.specs.Program.{asks, chain, nextSession, printed, listLeft}
+use Rattle.session.specs.Program.{asks, chain, nextSession, printing}
 use Rattle.session.specs.Listing.{reply-left}
 use Rattle.session.specs.TurnLaws.{closed-turns, chain-turns}
 use borrow.Author.Needs.{needs}
@@ -13,7 +13,7 @@ use Rattle.session.proofs.turns.ask_chain.Statement.{statement}
 use Rattle.session.proofs.turns.ask_chain.Tie as tie
 
 returns : tie.Need-returns
-unfolding nextSession printed listLeft number
+unfolding nextSession printing number
 returns c =
     let then1 = c .before .before .before .before in
     let after-shared-slice-known = then1 .before .before .before .before .before in

@@ -4,14 +4,14 @@ use mathlib.Core.Path.{refl}
 use borrow.Author.Tests.{not-true, not-false}
 use denote.Ref.{now}
 use Rattle.book.specs.Causes.{number}
-use Rattle.session.specs.Program.{asks, totalling, nextSession, printed, listLeft}
+use Rattle.session.specs.Program.{asks, totalling, nextSession, printing}
 use Rattle.session.specs.TurnLaws.{closed-turns, total-turns}
 use borrow.Author.Needs.{needs}
 use Rattle.session.proofs.turns.ask_total.Statement.{statement}
 use Rattle.session.proofs.turns.ask_total.Tie as tie
 
 returns : tie.Need-returns
-unfolding nextSession printed listLeft number
+unfolding nextSession printing number
 returns c =
     let then1 = c .before .before .before .before in
     let s = then1 .before .before .before .args in

@@ -6,14 +6,14 @@ use Rattle.book.specs.Causes.{number}
 use Rattle.register.specs.Calls.{callOf}
 use Rattle.report.specs.Report.{answerText}
 use Rattle.answers.specs.WrittenLaws.{wrote-as}
-use Rattle.session.specs.Program.{asks, call, nextSession, printed, listLeft}
+use Rattle.session.specs.Program.{asks, call, nextSession, printing}
 use Rattle.session.specs.TurnLaws.{closed-turns, call-turns}
 use borrow.Author.Needs.{needs}
 use Rattle.session.proofs.turns.edit.Statement.{statement}
 use Rattle.session.proofs.turns.edit.Tie as tie
 
 returns : tie.Need-returns
-unfolding nextSession printed listLeft number
+unfolding nextSession printing number
 returns c =
     let then1 = c .before .before .before .before in
     let s = then1 .before .before .before .args in

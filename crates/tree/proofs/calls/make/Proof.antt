@@ -14,37 +14,23 @@ use Rattle.tree.specs.declared.operations.Operand.{Operand}
 use Rattle.tree.specs.declared.operations.Operation.the-variants.{Union}
 use Rattle.tree.specs.declared.operations.Term.{Term}
 use Rattle.tree.specs.Inner.{LinksBelow}
-use Rattle.tree.specs.Calls.{treeOf}
 use Rattle.tree.specs.CallLaws.{none-more}
 use Rattle.tree.proofs.AnswerLaws.{as-good, refuse, accept, met}
 use Rattle.tree.proofs.OperationLaws.{one-lent, one-set}
 use Rattle.tree.proofs.calls.make.Statement.{statement}
 use Rattle.tree.proofs.calls.make.Tie as tie
 
--- The places that the needs come back to.
-abbrev start-of-refusal : tie.After-refusal → tie.Start
-start-of-refusal p = p .before .before .before .before .before
-
-abbrev start-of-made : tie.After-made → tie.Start
-start-of-made p = start-of-refusal (p .before .before .before .before)
-
-abbrev made-of-settle : tie.After-settle → tie.After-made
-made-of-settle p = p .before .before .before .before .before
-
-abbrev start-of-no-operand : tie.After-no-operand → tie.Start
-start-of-no-operand p = start-of-refusal (p .before .before)
-
 -- no cause was found
 met-all : (c : tie.Else1)
-    → let start = start-of-refusal (c .before) in
+    → let start = c .before .before .before .before .before .before in
     (1 ≤ start .args .n) × (start .args .n ≤ 1024) × PairsBelow (start .args .n) (start .args .pairs .now)
     × (WellFormed (start .args .n) [] × WellFormed (start .args .n) []) × (32 * treeUnit (start .args .n) ≤ length (start .args .work .now))
 met-all c = met _ _ _ _ _ (c .before .refusal .ensures) (c .if1 .left)
 
 returns : tie.Need-returns
 returns c =
-    let a = start-of-refusal (c .before) .args in
-    refuse (a .n) (a .pairs .now) [] (length (a .work .now)) (treeOf (a .n) (a .pairs .now)) (a .out .now) (a .out .now) _
+    let a = c .before .before .before .before .before .before .args in
+    refuse (a .n) (a .pairs .now) [] (length (a .work .now)) (treeWords (a .n) (setOf (a .pairs .now))) (a .out .now) (a .out .now) _
     (c .before .refusal .ensures ∙ as-good (a .n) (a .pairs .now) _ _ (length (a .work .now)) (none-more (a .n))) (c .if1 .taken) refl
 
 made-requires : tie.Need-made-requires
@@ -56,15 +42,15 @@ made-requires c κs =
 settle-requires : tie.Need-settle-requires
 settle-requires c κs =
     let after-made = c .before .before .before .before in
-    let start = start-of-made after-made in
+    let start = after-made .before .before .before .before .before .before .before .before .before in
     let k : length (after-made .made .last .1 .0) ≡ length (start .args .work .now) = after-made .made .kept .1 .0 in
     omega (arith, k, after-made .made .ensures .0)
 
 returns-2 : tie.Need-returns-2
 returns-2 c =
-    let after-made = made-of-settle (c .before .before) in
+    let after-made = c .before .before .before .before .before .before .before in
     let after-no-operand = after-made .before .before in
-    let start = start-of-no-operand after-no-operand in
+    let start = after-no-operand .before .before .before .before .before .before .before in
     let a = start .args in
     let m = met-all (after-no-operand .before) in
     let ps = a .pairs .now in
@@ -75,7 +61,7 @@ returns-2 c =
     record { operation = Union; first = after-no-operand .no-operand .result; second = record { size = 0; sense = Plain; forward = 1; against = 0 } } in
     let l = one-lent t (a .n) ps _ noPairs e (none-set (a .n)) (none-tree (a .n)) i in
     let y = one-set t (a .n) ps [] noPairs (setOf ps) e (union-none _ ∙ crossed-pairs ps b) ∙ ap (treeWords (a .n)) (union-none (setOf ps)) in
-    accept (a .n) ps [] (length (a .work .now)) (treeOf (a .n) ps) (a .out .now) _
+    accept (a .n) ps [] (length (a .work .now)) (treeWords (a .n) (setOf ps)) (a .out .now) _
     (after-no-operand .before .before .refusal .ensures ∙ as-good (a .n) ps _ _ (length (a .work .now)) (none-more (a .n)))
     (after-no-operand .before .if1 .left)
     _ (after-made .made .ensures .1 noPairs noPairs l .words ∙ y) (c .before .before .settle .ensures)

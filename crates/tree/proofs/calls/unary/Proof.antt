@@ -6,7 +6,7 @@ use native.Mathlib.Omega.{arith}
 use borrow.Author.Needs.{needs}
 use lib.ListN.{length}
 use Rattle.k2.specs.PairSets.{Cells, PairsBelow}
-use Rattle.k2.specs.Trees.{treeUnit, WellFormed}
+use Rattle.k2.specs.Trees.{treeWords, treeUnit, WellFormed}
 use Rattle.k2.specs.TreeSets.{setIn}
 use Rattle.k2.specs.TreeSetLaws.{formed-set}
 use Rattle.bits.specs.BitSets.{none}
@@ -16,7 +16,6 @@ use Rattle.tree.specs.declared.operations.Operand.{Operand}
 use Rattle.tree.specs.declared.operations.Term.{Term}
 use Rattle.tree.specs.Inner.{valued, outcome}
 use Rattle.tree.specs.InnerLaws.{valued-alone}
-use Rattle.tree.specs.Calls.{treeOfOne}
 use Rattle.tree.specs.CallLaws.{one-more}
 use Rattle.tree.proofs.AnswerLaws.{as-good, refuse, accept, met, formed-most}
 use Rattle.tree.proofs.CopyLaws.{copied-one}
@@ -45,7 +44,7 @@ returns : tie.Need-returns
 returns c =
     let a = start-of-refusal (c .before) .args in
     refuse (a .n) [] (a .a .now ∷ []) (length (a .work .now))
-    (treeOfOne (λ x. outcome (a .operation) (a .n) none noPairs (sensed (a .sense) x)) (a .n) (a .a .now)) (a .out .now) (a .out .now) _
+    (treeWords (a .n) (outcome (a .operation) (a .n) none noPairs (sensed (a .sense) (setIn (a .n) (a .a .now))))) (a .out .now) (a .out .now) _
     (c .before .refusal .ensures ∙ as-good (a .n) [] _ _ (length (a .work .now)) (one-more (a .n) (a .a .now))) (c .if1 .taken) refl
 
 copy-u64-requires : tie.Need-copy-u64-requires
@@ -93,7 +92,7 @@ returns-2 c =
     let y : valued [] (t .second) (v .set) ≡ x =
     ap (λ (o : Operand). valued [] o (v .set)) q ∙ valued-alone [] (length (a .a .now)) (a .sense) (v .set) ∙ ap (sensed (a .sense)) (sym (formed-set v)) in
     accept (a .n) [] (a .a .now ∷ []) (length (a .work .now))
-    (treeOfOne (λ x. outcome (a .operation) (a .n) none noPairs (sensed (a .sense) x)) (a .n) (a .a .now)) (a .out .now) _
+    (treeWords (a .n) (outcome (a .operation) (a .n) none noPairs (sensed (a .sense) (setIn (a .n) (a .a .now))))) (a .out .now) _
     (else1 .before .refusal .ensures ∙ as-good (a .n) [] _ _ (length (a .work .now)) (one-more (a .n) (a .a .now))) (else1 .if1 .left)
     _ (after-made .made .ensures .1 noPairs (v .set) l .words ∙ one-set t (a .n) [] [] (v .set) x e y) (c .before .before .settle .ensures)
 
