@@ -1,8 +1,8 @@
 -- `host::previews::preview` asks of a copy of the words, which has their front, and so their register. Assumes nothing.
-use mathlib.Core.Path.{_≡_, refl, sym}
+use mathlib.Core.Path.{refl, sym}
 use Prim.Native.Nat.{_≤_}
 use native.Mathlib.Omega.{arith}
-use lib.ListN.{length, take}
+use lib.ListN.{length}
 use lib.Seq.{length-take-le}
 use Rattle.book.specs.Causes.{number}
 use Rattle.register.specs.Words.{stateWords}

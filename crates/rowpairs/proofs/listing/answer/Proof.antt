@@ -61,9 +61,9 @@ list-value-requires c κs =
     let start = start-of-match-keys2 (else1 .before .before .before) in
     let P = start .pre in
     let q = accepted-text (else1 .before .before) in (
-      record { small = P .0; marked = P .1; coded = (start .args .text .now, q .0, q .2) },
-      enough-work (P .3 .0) _ _ (enough else1 (P .3 .1)),
-      P .2,
+      record { small = P .few; marked = P .marked; coded = (start .args .text .now, q .0, q .2) },
+      enough-work (P .needed .0) _ _ (enough else1 (P .needed .1)),
+      P .few-links,
     )
 
 returns-2 : tie.Need-returns-2

@@ -13,7 +13,7 @@ start-of-rows-work p = let at-shared-slice-known = p .before .before .before .be
 answer-requires : tie.Need-answer-requires
 answer-requires c κs =
     let start = start-of-rows-work (c .before .before) in
-    (start .pre .0, omega arith, start .pre .1, (by-rows, c .before .before .rows-work .ensures))
+    record { few = start .pre .0; marked = omega arith; few-links = start .pre .1; needed = (by-rows, c .before .before .rows-work .ensures) }
 
 returns : tie.Need-returns
 returns c =
