@@ -11,13 +11,7 @@ use register::Call;
 use register::Entry;
 
 // The preview of a call, made on the words themselves.
-fn foresee(
-    words: &mut [u32],
-    call: Call,
-    text: &[u8],
-    work: &mut [u64],
-    list: &mut [u32],
-) -> u64
+fn foresee(words: &mut [u32], call: Call, text: &[u8], work: &mut [u64], list: &mut [u32]) -> u64
     ensures { λ k. ⌜ Foresees (callOf call) (now (words .entry)) (now (text .entry)) (length (now (work .entry))) (now (list .entry)) (now (list .exit)) k ⌝ }
 {
     let number = register::edit_in(words, call);
