@@ -51,8 +51,7 @@ step-requires : tie.Need-step-requires Inv-loop μ-loop
 step-requires c κs =
     let l = c .before .before .before .before .before .loop in
     let P = start-of-item-of (c .before .before) .pre in
-    let r = going-ready _ _ _ _ (l .i) (omega arith) (l .inv .going) (sym (c .before .before .item-of .ensures)) in
-    (
+    let r = going-ready _ _ _ _ (l .i) (omega arith) (l .inv .going) (sym (c .before .before .item-of .ensures)) in (
       record {
         few = P .0 .few;
         room = omega (arith, l .inv .work-as-long, P .0 .room);
