@@ -15,8 +15,7 @@ built-of-with-edges p = let at-enter2 = p .before .before .before .before .befor
 built-requires : tie.Need-built-requires
 built-requires c κs =
     let p = c .before .before .before .before .pre in
-    let long = length-replicate {A = ℕ} 64 0 in
-    (
+    let long = length-replicate {A = ℕ} 64 0 in (
       record {
         follow-long = long;
         pred-long = long;

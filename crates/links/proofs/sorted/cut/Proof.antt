@@ -31,7 +31,7 @@ loop-again c =
       j-below = omega arith;
       a-long = simp length-set (c .before .before .loop .inv .a-long);
       cut = cut-turn (c .before .before .loop .a) (c .before .before .before .args .count) (c .before .before .loop .j) (omega arith) (omega arith)
-      ∙ c .before .before .loop .inv .cut;
+          ∙ c .before .before .loop .inv .cut;
     }
 
 returns : tie.Need-returns Inv-loop μ-loop

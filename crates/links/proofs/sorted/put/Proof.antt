@@ -31,7 +31,7 @@ loop-again c =
       inside = omega arith;
       a-long = simp length-set (c .before .before .loop .inv .a-long);
       put = put-turn (c .before .before .loop .a) (c .before .before .before .args .count) (c .before .before .loop .j)
-      (c .before .before .loop .carried) (omega arith) (omega arith) ∙ c .before .before .loop .inv .put;
+          (c .before .before .loop .carried) (omega arith) (omega arith) ∙ c .before .before .loop .inv .put;
     }
 
 same-length : tie.Need-same-length Inv-loop μ-loop
