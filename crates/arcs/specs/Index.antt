@@ -6,11 +6,15 @@
 --                   p is 0, or the number and 1 of an arc below k of the record r
 --   Indexed key k ix
 --                   from its first arc on, in falling order, come all arcs below k of a record, and no other
+--   Indexing arcs key index
+--                        the arcs are few, the key is a part of an arc's word, and the index is long enough and empty
 -- Assumes nothing: these are definitions.
 use mathlib.Core.Path.{_≡_}
 use mathlib.Core.List.{List}
 use Prim.Native.Nat.{ℕ, _+_, _-_, _/_, _%_, _^_, _<_, _≤_}
-use lib.ListN.{getD}
+use lib.ListN.{getD, length}
+use Rattle.arcs.specs.Arcs.{maxArcs}
+use Rattle.book.specs.Causes.{maxRecords}
 
 abbrev pub indexWords : ℕ
 indexWords = 9216
@@ -32,3 +36,10 @@ pub record Indexed (key : ℕ → ℕ) (k : ℕ) (ix : List ℕ) : Type 0 where
   pub first-all : (j : ℕ) → j < k → j < firstArc ix (key j)
   pub next-at : (j : ℕ) → j < k → Cursor key j (key j) (nextArc ix j)
   pub next-all : (i j : ℕ) → i < j → j < k → key i ≡ key j → i < nextArc ix j
+
+-- ---- what functions ask for
+pub record Indexing (arcs : List ℕ) (key : ℕ) (index : List ℕ) : Type 0 where
+  pub few : length arcs ≤ maxArcs
+  pub part : key ≤ 10
+  pub room : maxRecords + length arcs ≤ length index
+  pub clear : (r : ℕ) → getD index r 0 ≡ 0

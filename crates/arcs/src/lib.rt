@@ -4,7 +4,7 @@ ghost use Prim.Native.Nat.{ℕ, _+_, _*_, _<_, _≤_};
 ghost use lib.ListN.{length, getD};
 ghost use Rattle.book.specs.Causes.{maxRecords, maxLinks};
 ghost use Rattle.arcs.specs.Arcs.{maxArcs, arcOf, arcFrom, arcTo, Crossings, NoUse, PutIf};
-ghost use Rattle.arcs.specs.Index.{keyAt, firstArc, nextArc, Indexed};
+ghost use Rattle.arcs.specs.Index.{keyAt, firstArc, nextArc, Indexed, Indexing};
 
 // An arc's word is its letter, the record left and the record reached, each times its unit; a link's word has its label in the letter's place. A set of labels
 // has room for so many.
@@ -95,8 +95,7 @@ const LEFT: u32 = 10;
 // The arcs by the record whose bits begin at `key`, into an index of zeros: at r the last arc of the record r, at 1,024 + j the one before arc j of the
 // same record, each time its number and 1, or 0 for none.
 fn index_of(arcs: &[u32], key: u32, index: &mut [u16])
-    requires { ⌜ (length (now arcs) ≤ maxArcs) × (key ≤ 10) × (maxRecords + length (now arcs) ≤ length (now index))
-        × ((r : ℕ) → getD (now index) r 0 ≡ 0) ⌝ }
+    requires { ⌜ Indexing (now arcs) key (now index) ⌝ }
     ensures { λ _. ⌜ Indexed (keyAt (now (arcs .entry)) key) (length (now (arcs .entry))) (now (index .exit)) ⌝ }
 {
     let mut j = 0;

@@ -1,7 +1,7 @@
 // Chain questions.
 ghost use mathlib.Core.Path.{_≡_};
 ghost use mathlib.Core.List.{List};
-ghost use Prim.Native.Nat.{ℕ, _*_, _<_, _≤_};
+ghost use Prim.Native.Nat.{ℕ, _≤_};
 ghost use lib.ListN.{length};
 ghost use Rattle.book.specs.Causes.{maxRecords, maxLinks};
 ghost use Rattle.book.specs.Book.{Book};
@@ -12,6 +12,7 @@ ghost use Rattle.reader.specs.Code.{code};
 ghost use Rattle.register.specs.Representation.{Represents};
 ghost use Rattle.register.specs.Reads.{ReadOf};
 ghost use Rattle.search.specs.Steps.{Untouched, Answered};
+ghost use Rattle.chains.specs.Inner.{Searching};
 ghost use Rattle.chains.specs.Replies.{Replies};
 use reader::Answer;
 use register::Register;
@@ -35,9 +36,7 @@ fn sought(
     work: &mut [u64],
     list: &mut [u32],
 ) -> Found
-    requires { ⌜ (length (now marks) ≤ maxRecords) × (length (now links) ≤ maxLinks) × (from < length (now marks)) × (to < length (now marks))
-        × (length (now marks) * 64 ≤ length (now work))
-        × ((text : List ℕ) × (e : Expr) × InLimits text e × (now numbers ≡ code e)) ⌝ }
+    requires { ⌜ Searching (now marks) (now links) (now numbers) from to (now work) ⌝ }
     ensures { λ r. ⌜ Untouched (now (list .entry)) (now (list .exit)) r
         × ((text : List ℕ) (e : Expr) → InLimits text e → now (numbers .entry) ≡ code e → (self : Register) (b : Book) → Represents self b
         → ReadOf self (now (marks .entry)) (now (links .entry))

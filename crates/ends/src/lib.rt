@@ -1,7 +1,7 @@
 // The ends of one record, every record that a chain leads to from it, and its starts, from which one leads to it.
 ghost use mathlib.Core.Path.{_≡_};
 ghost use mathlib.Core.List.{List};
-ghost use Prim.Native.Nat.{ℕ, _<_, _≤_};
+ghost use Prim.Native.Nat.{ℕ, _≤_};
 ghost use lib.ListN.{length};
 ghost use Rattle.book.specs.Causes.{maxRecords, maxLinks};
 ghost use Rattle.book.specs.Book.{Book};
@@ -16,7 +16,7 @@ ghost use Rattle.rows.specs.Rows.{places};
 ghost use Rattle.ends.specs.Ends.{joinedBy};
 ghost use Rattle.answers.specs.Listing.{Shown, Grown};
 ghost use Rattle.ends.specs.Asking.{AsksJoined, AsksEnds, AsksStarts};
-ghost use Rattle.ends.specs.Listing.{meets};
+ghost use Rattle.ends.specs.Listing.{meets, Searching};
 use answers::Counted;
 use reader::Answer;
 use register::Register;
@@ -57,8 +57,7 @@ fn sought(
     x: usize,
     out: &mut [u32],
 ) -> usize
-    requires { ⌜ (length (now marks) ≤ maxRecords) × (length (now links) ≤ maxLinks) × (x < length (now marks))
-        × ((text : List ℕ) × (e : Expr) × InLimits text e × (now numbers ≡ code e)) ⌝ }
+    requires { ⌜ Searching (now marks) (now links) (now numbers) x ⌝ }
     ensures { λ r. ⌜ ((l : List ℕ) × (r ≡ length l) × (r ≤ maxRecords) × Shown l (now (out .entry)) (now (out .exit))
         × ((text : List ℕ) (e : Expr) → InLimits text e → now (numbers .entry) ≡ code e → (self : Register) (b : Book) → Represents self b
         → ReadOf self (now (marks .entry)) (now (links .entry)) → l ≡ joinedBy against (asked b) e x)) ⌝ }

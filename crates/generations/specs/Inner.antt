@@ -28,6 +28,10 @@
 --   Looped self m x work list list′ r
 --                   what the inner function promises that asks for the first loop of x over links whose label is in the set m: over any contents the same; for
 --                   every book and labels with a first loop, that loop, or 13 where the list is too short for it
+--   Visiting links index y depths
+--                        the links with their index by the record reached, a record, and the depths so far
+--   Numbering marks depths n list
+--                        the depth of each of n records is known, and the list takes the numbers of those in use
 -- Assumes nothing: these are definitions.
 use mathlib.Core.Path.{_≡_}
 use mathlib.Core.List.{List, [], _∷_, _++_}
@@ -40,7 +44,7 @@ use Rattle.k2.specs.PairSets.{Cells, closure}
 use Rattle.paths.specs.Grammar.{bar, open-group, close-group, plus-sign, letter-a}
 use Rattle.register.specs.Marks.{hasMark, withdrawnMark}
 use Rattle.arcs.specs.Arcs.{arcFrom, arcTo}
-use Rattle.book.specs.Causes.{Cause, bad-label, short-work, short-list, firstNumber}
+use Rattle.book.specs.Causes.{Cause, bad-label, short-work, short-list, firstNumber, maxLinks, maxRecords}
 use Rattle.book.specs.Book.{Book}
 use Rattle.answers.specs.Answers.{counted, Contained}
 use Rattle.paths.specs.Chains.{asked, Step, stepWords}
@@ -50,6 +54,7 @@ use Rattle.register.specs.Representation.{Represents}
 use Rattle.generations.specs.Generations.{FirstLoop, Outcome, refused, written, loop}
 use Rattle.generations.specs.declared.GenerationsAnswer.{GenerationsAnswer}
 use Rattle.generations.specs.Generating.{outcomeOf, generationsCounted}
+use Rattle.arcs.specs.Index.{indexWords, Indexed}
 
 abbrev pub Contains : ℕ → List ℕ → Type 0
 Contains m ls = (l : ℕ) → digit m l ≡ bit (has eqb l ls)
@@ -150,3 +155,19 @@ pub record Looped (self : Register) (m x work : ℕ) (list list′ : List ℕ) (
   pub contained : Contained (length list) (counted (generationsCounted r)) list list′ (generationsCounted r)
   pub first : (b : Book) → Represents self b → chainWork (b .n) ≤ work → (ls : List ℕ) → Contains m ls → (ss : List Step) → FirstLoop (asked b) ls x ss
       → (outcomeOf r list′ ≡ loopOutcome (length list) (stepWords ss)) × (list′ ≡ over (written (outcomeOf r list′)) list)
+
+-- ---- what functions ask for
+pub record Visiting (links index : List ℕ) (y : ℕ) (depths : List ℕ) : Type 0 where
+  pub few : length links ≤ maxLinks
+  pub index-long : length index ≡ indexWords
+  pub inside : y < maxRecords
+  pub depths-long : length depths ≡ maxRecords
+  pub indexed : Indexed (arcTo links) (length links) index
+  pub bounded : Bounded depths
+
+pub record Numbering (marks depths : List ℕ) (n : ℕ) (list : List ℕ) : Type 0 where
+  pub few : n ≤ maxRecords
+  pub marks-long : length marks ≡ maxRecords
+  pub depths-long : length depths ≡ maxRecords
+  pub known : (y : ℕ) → y < n → 1 < getD depths y 0
+  pub fits : length (chosen marks depths n) ≤ length list

@@ -6,9 +6,7 @@ ghost use mathlib.Core.Bool.{true, false};
 ghost use Prim.Native.Nat.{ℕ, _+_, _<_, _≤_, max};
 ghost use lib.ListN.{length, getD, replicate};
 ghost use Rattle.book.specs.Causes.{maxRecords, maxLinks};
-ghost use Rattle.arcs.specs.Arcs.{arcTo};
-ghost use Rattle.arcs.specs.Index.{indexWords, Indexed};
-ghost use Rattle.generations.specs.Inner.{entered, Right, Bounded, Leads, Visited};
+ghost use Rattle.generations.specs.Inner.{entered, Right, Leads, Visited, Visiting};
 
 // The depth of a record that is being looked at, and of one to which no link leads.
 const ENTERED: u32 = 1;
@@ -28,8 +26,7 @@ fn deeper(depth: u32, other: u32) -> u32
 
 // The depth of the record y, found if it was 0; that of a record being looked at says that some record leads to itself.
 fn visit(links: &[u32], index: &[u16], y: usize, depths: &mut [u32]) -> u32
-    requires { ⌜ (length (now links) ≤ maxLinks) × (length (now index) ≡ indexWords) × (y < maxRecords)
-        × (length (now depths) ≡ maxRecords) × Indexed (arcTo (now links)) (length (now links)) (now index) × Bounded (now depths) ⌝ }
+    requires { ⌜ Visiting (now links) (now index) y (now depths) ⌝ }
     ensures { λ r. ⌜ Visited (now (links .entry)) y (now (depths .entry)) (now (depths .exit)) r ⌝ }
 {
     let known = depths[y];

@@ -5,14 +5,14 @@ mod depths;
 mod labels;
 
 ghost use mathlib.Core.Path.{_≡_};
-ghost use Prim.Native.Nat.{ℕ, _<_, _≤_};
+ghost use Prim.Native.Nat.{ℕ, _≤_};
 ghost use mathlib.Core.List.{List};
-ghost use lib.ListN.{length, getD};
+ghost use lib.ListN.{length};
 ghost use Rattle.book.specs.Causes.{maxRecords};
 ghost use Rattle.k2.specs.PairSets.{IsSet};
 ghost use Rattle.rows.specs.RowSets.{crossedWords};
 ghost use Rattle.answers.specs.Written.{Wrote};
-ghost use Rattle.generations.specs.Inner.{chosen, Smallest, Joined, Closed};
+ghost use Rattle.generations.specs.Inner.{chosen, Smallest, Joined, Closed, Numbering};
 ghost use Rattle.generations.specs.Generating.{Generates};
 ghost use Rattle.generations.specs.Inner.{Looped};
 use chains::ChainAnswer;
@@ -50,8 +50,7 @@ fn count_in_use(marks: &[u32], n: usize) -> usize
 
 // The number of each record below n that is in use, by its depth. How many are they?
 fn write_numbers(marks: &[u32], depths: &[u32], n: usize, list: &mut [u32]) -> usize
-    requires { ⌜ (n ≤ maxRecords) × (length (now marks) ≡ maxRecords) × (length (now depths) ≡ maxRecords)
-        × ((y : ℕ) → y < n → 1 < getD (now depths) y 0) × (length (chosen (now marks) (now depths) n) ≤ length (now list)) ⌝ }
+    requires { ⌜ Numbering (now marks) (now depths) n (now list) ⌝ }
     ensures { λ r. ⌜ Wrote 0 (chosen (now (marks .entry)) (now (depths .entry)) n) (now (list .entry)) (now (list .exit)) r ⌝ }
 {
     let mut count = 0;

@@ -22,6 +22,7 @@ ghost use Rattle.rows.specs.Rows.{flat};
 ghost use Rattle.rows.specs.Steps.{Masked};
 ghost use Rattle.grid.specs.Grid.{Space, rowOf, firstRows, first};
 ghost use Rattle.grid.specs.Steps.{mostSteps, stackPlaces, Clean, Merged, Fresh, emptyMarks, Filled, Started, RowClosed, Onward};
+ghost use Rattle.grid.specs.Steps.{Looking, Marking, Passing, Stacked};
 
 // So many words a row has at most, and a part of the marks.
 const ROW: usize = 16;
@@ -63,7 +64,7 @@ fn fresh(
     seen: &[u64],
     closed: &[u64],
 ) -> usize
-    requires { ⌜ Space n w n (length (now cells)) n × (x < n) × (16 ≤ length (now seen)) × (16 ≤ length (now closed)) ⌝ }
+    requires { ⌜ Looking n w x (now cells) (now seen) (now closed) ⌝ }
     ensures { λ r. ⌜ Fresh n w (rowOf (now (cells .entry)) (x * w) mask) (bitAt (now (seen .entry))) r ⌝ }
 {
     let words = mask as u64;
@@ -101,7 +102,7 @@ fn add_row(cells: &[u64], mask: u16, w: usize, b: usize, set: &mut [u64])
 
 // Record z is seen, and, if its row, with the mask, is whole, all that it leads to.
 fn mark(cells: &[u64], mask: u16, w: usize, z: usize, whole: u64, seen: &mut [u64])
-    requires { ⌜ (w ≤ 16) × (z < maxRecords) × (z * w + w ≤ length (now cells)) × (16 ≤ length (now seen)) ⌝ }
+    requires { ⌜ Marking w z (now cells) (now seen) ⌝ }
     ensures { λ _. ⌜ ((y : ℕ) → y < w * 64 → bitAt (now (seen .exit)) y
         ≡ max (put z 1 (bitAt (now (seen .entry))) y) (pick (eqb whole 1) (rowOf (now (cells .entry)) (z * w) mask y) 0)) ⌝ }
 {
@@ -190,7 +191,7 @@ fn close_once(cells: &mut [u64], masks: &mut [u16], n: usize, w: usize, x: usize
 
 // A column of row x, at place b with the mask, whose record is not marked as seen; n or more if there is none.
 fn unseen(cells: &[u64], mask: u16, n: usize, w: usize, b: usize, marks: &[u64]) -> usize
-    requires { ⌜ (n ≤ maxRecords) × (w ≤ 16) × (b + w ≤ length (now cells)) × (length (now marks) ≡ 48) ⌝ }
+    requires { ⌜ Passing n w b (now cells) (now marks) ⌝ }
     ensures { λ r. ⌜ r < mostSteps ⌝ }
 {
     let words = mask as u64;
@@ -254,8 +255,7 @@ fn advance(
     stack: &mut [u16],
     depth: usize,
 ) -> usize
-    requires { ⌜ Space n w n (length (now cells)) (length (now masks)) × (length (now marks) ≡ 48)
-        × (length (now stack) ≡ stackPlaces) × (0 < depth) × (depth < stackPlaces) ⌝ }
+    requires { ⌜ Stacked n w (now cells) (now masks) (now marks) (now stack) × (0 < depth) × (depth < stackPlaces) ⌝ }
     ensures { λ r. ⌜ (r ≤ depth + 1) × Onward n w (now (marks .entry)) (now (cells .entry))
         (now (masks .entry)) (now (marks .exit)) (now (cells .exit)) (now (masks .exit)) ⌝ }
 {
@@ -300,8 +300,7 @@ fn close_from(
     marks: &mut [u64],
     stack: &mut [u16],
 )
-    requires { ⌜ Space n w n (length (now cells)) (length (now masks)) × (length (now marks) ≡ 48)
-        × (length (now stack) ≡ stackPlaces) × (x < n) ⌝ }
+    requires { ⌜ Stacked n w (now cells) (now masks) (now marks) (now stack) × (x < n) ⌝ }
     ensures { λ _. ⌜ Onward n w (now (marks .entry)) (now (cells .entry)) (now (masks .entry)) (now (marks .exit)) (now (cells .exit)) (now (masks .exit)) ⌝ }
 {
     if bits::bit(marks, SEEN + x) == 1 {
@@ -322,8 +321,7 @@ fn close_record(
     marks: &mut [u64],
     stack: &mut [u16],
 )
-    requires { ⌜ Space n w n (length (now cells)) (length (now masks)) × (length (now marks) ≡ 48)
-        × (length (now stack) ≡ stackPlaces) × (x < n) ⌝ }
+    requires { ⌜ Stacked n w (now cells) (now masks) (now marks) (now stack) × (x < n) ⌝ }
     ensures { λ _. ⌜ Onward n w (now (marks .entry)) (now (cells .entry)) (now (masks .entry)) (now (marks .exit)) (now (cells .exit)) (now (masks .exit))
         × (bitAt (now (marks .exit)) x ≡ 1) ⌝ }
 {

@@ -16,7 +16,7 @@ ghost use Rattle.grid.specs.Steps.{cutRow, columns};
 
 // The bits of a word, each as `at` + its place, written from place t on. The place after them.
 fn list_word(word: u64, at: usize, out: &mut [u32], t: usize) -> usize
-    requires { ⌜ (at + 64 < 2 ^ 32) × (t ≤ 2097152) ⌝ }
+    requires { ⌜ (at + 64 < 2 ^ 32) × (t ≤ 2 * (maxRecords * maxRecords)) ⌝ }
     ensures { λ r. ⌜ (r ≤ t + 64) × Grown t r (columns (digit word) at 64) (now (out .entry)) (now (out .exit)) ⌝ }
 {
     let mut s = t;
@@ -43,7 +43,7 @@ fn list_row(
     out: &mut [u32],
     t: usize,
 ) -> usize
-    requires { ⌜ Space n w n (length (now cells)) n × (x < n) × (t ≤ 1048576) ⌝ }
+    requires { ⌜ Space n w n (length (now cells)) n × (x < n) × (t ≤ maxRecords * maxRecords) ⌝ }
     ensures { λ r. ⌜ (r ≤ t + maxRecords)
         × Grown t r (columns (cutRow n (rowOf (now (cells .entry)) (x * w) mask)) (x * maxRecords) n) (now (out .entry)) (now (out .exit)) ⌝ }
 {

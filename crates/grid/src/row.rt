@@ -9,7 +9,7 @@ ghost use lib.ListN.{length};
 ghost use Rattle.k2.specs.Bits.{bitAt};
 ghost use Rattle.bits.specs.BitSets.{both};
 ghost use Rattle.grid.specs.Grid.{rowOf};
-ghost use Rattle.grid.specs.Steps.{Lowest, wordAt, Merged, Meets};
+ghost use Rattle.grid.specs.Steps.{Lowest, wordAt, Merged, Meets, Merging};
 
 // A word put into word c of the row at place b, whose mask is number t.
 pub fn put(cells: &mut [u64], masks: &mut [u16], t: usize, b: usize, c: usize, v: u64)
@@ -33,7 +33,7 @@ pub fn merge(
     source: u16,
     f: usize,
 )
-    requires { ⌜ (t < length (now masks)) × (w ≤ 16) × (b + w ≤ length (now cells)) × (f + w ≤ length (now cells)) ⌝ }
+    requires { ⌜ Merging w t b f (now cells) (now masks) ⌝ }
     ensures { λ _. ⌜ ((b + w ≤ f) ⊎ (f + w ≤ b)
         → Merged w t b (rowOf (now (cells .entry)) f source) (now (cells .entry)) (now (masks .entry)) (now (cells .exit)) (now (masks .exit))) ⌝ }
 {

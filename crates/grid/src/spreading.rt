@@ -3,19 +3,17 @@ use crate::words::above;
 use crate::words::cut;
 use crate::words::lowest;
 ghost use mathlib.Core.Path.{_≡_};
-ghost use Prim.Native.Nat.{ℕ, _+_, _*_, _<_};
+ghost use Prim.Native.Nat.{_*_};
 ghost use lib.ListN.{length};
-ghost use Rattle.book.specs.Causes.{maxRecords};
 ghost use Rattle.k2.specs.Sizes.{rowsWords};
 ghost use Rattle.k2.specs.Bits.{bitAt};
 ghost use Rattle.rows.specs.Rows.{flat};
 ghost use Rattle.grid.specs.Grid.{Space, rowOf, first};
-ghost use Rattle.grid.specs.Steps.{cutRow, Spread};
+ghost use Rattle.grid.specs.Steps.{cutRow, Spread, Spreading};
 
 // Row x with the mask, in the columns below n, written as row x of the rows, which is empty.
 fn spread_row(cells: &[u64], mask: u16, n: usize, w: usize, x: usize, rows: &mut [u64])
-    requires { ⌜ Space n w n (length (now cells)) n × (x < n) × (length (now rows) ≡ rowsWords)
-        × ((y : ℕ) → y < maxRecords → bitAt (now rows) (x * maxRecords + y) ≡ 0) ⌝ }
+    requires { ⌜ Spreading n w x (now cells) (now rows) ⌝ }
     ensures { λ _. ⌜ Spread x (cutRow n (rowOf (now (cells .entry)) (x * w) mask)) 16 (now (rows .entry)) (now (rows .exit)) ⌝ }
 {
     let words = mask as u64;

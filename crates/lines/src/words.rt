@@ -7,8 +7,11 @@ ghost use Rattle.lines.specs.Read.{read};
 // The most bytes of a question's text that are sent.
 const MOST_TEXT: usize = 1018;
 
+// The greatest number.
+const MOST_NUMBER: u32 = 65535;
+
 // What stands for a word that is no number, or no label.
-pub const NONE: u32 = 65536;
+pub const NONE: u32 = MOST_NUMBER + 1;
 
 fn is_blank(c: u8) -> bool
     ensures { λ r. ⌜ r ≡ blank c ⌝ }
@@ -123,7 +126,7 @@ fn as_number(w: &[u8]) -> u32
             return NONE;
         }
         value = value * 10 + (c - b'0') as u32;
-        if value > 65535 {
+        if value > MOST_NUMBER {
             return NONE;
         }
         i += 1;

@@ -25,6 +25,11 @@ const FAR: i64 = 4611686018427387904;
 
 const LOW: i64 = -4611686018427387904;
 
+// The least number of 32 bits, and the one after the greatest.
+const LEAST_NARROW: i64 = -2147483648;
+
+const PAST_NARROW: i64 = 2147483648;
+
 // A tie: the second record begins at least `least` and at most `most` rings after the first.
 #[repr(C)]
 pub struct Tie {
@@ -263,10 +268,10 @@ fn fill(n: usize, base: usize, d: &mut [i64])
 fn narrow(v: i64) -> i32
     ensures { λ r. ⌜ (mag v < 2 ^ 31 → r ≡ v) ⌝ }
 {
-    if v < -2147483648 {
+    if v < LEAST_NARROW {
         return 0;
     }
-    if v >= 2147483648 {
+    if v >= PAST_NARROW {
         return 0;
     }
     v as i32

@@ -29,6 +29,16 @@
 --   Line text bytes i last low count next
 --                        the line stands, `count` pairs are on it and `next` is the number after them; or it does not, and `next` is above every number
 --   Judged text bytes    the bytes are the pages of the text and some list, so many pairs; or of no list
+--   PairLine words count at out
+--                        the first `count` of words are pair words, and a line of them fits `out` from the place `at` on
+--   Gathering from words n masks
+--                        `words` takes the pairs of a line, the next from the place `from` on, of n records with so many masks
+--   Laying i place out n masks
+--                        `out` takes line i, whose pairs are from `place` on, of n records with so many masks
+--   Paging cells masks n lines out
+--                        `lines` are as many as the relation of n records fills, and `out` takes them
+--   Checking pages i lines low
+--                        line i is one of the `lines` that the bytes have, and the pairs so far are below `low`
 -- Assumes nothing: these are definitions.
 use mathlib.Core.Path.{_≡_}
 use mathlib.Core.List.{List, [], _∷_, _++_}
@@ -45,6 +55,7 @@ use Rattle.answers.specs.Written.{Wrote}
 use Rattle.pages.specs.Pages.{joined, parts, linePairs, pagePairs, recordWidth, pairLine, headLine, IsPages}
 use Rattle.pages.specs.declared.reading.Judgement.{Judgement}
 use Rattle.pages.specs.declared.reading.Judgement.the-variants.{Listing, Broken}
+use Rattle.book.specs.Causes.{maxRecords}
 
 abbrev pub lineBytes : ℕ
 lineBytes = 73
@@ -135,3 +146,35 @@ pub data Line (text bytes : List ℕ) (i last low : ℕ) : ℕ → ℕ → Type 
 pub data Judged (text bytes : List ℕ) : Judgement → Type 0 where
   good : (l : List ℕ) → l ≡ wordsBefore bytes (length bytes / lineBytes) → IsPages text bytes l → Judged text bytes (Listing (length l))
   bad : ((l : List ℕ) → IsPages text bytes l → ⊥) → Judged text bytes Broken
+
+-- ---- what functions ask for
+pub record PairLine (words : List ℕ) (count at : ℕ) (out : List ℕ) : Type 0 where
+  pub few : count ≤ linePairs
+  pub there : count ≤ length words
+  pub small : (i : ℕ) → i < count → getD words i 0 < pairWords
+  pub fits : at + lineBytes ≤ length out
+
+pub record Gathering (from : ℕ) (words : List ℕ) (n : ℕ) (masks : List ℕ) : Type 0 where
+  pub inside : from ≤ pairWords
+  pub six : length words ≡ linePairs
+  pub few : n ≤ maxRecords
+  pub masked : n ≤ length masks
+
+pub record Laying (i place : ℕ) (out : List ℕ) (n : ℕ) (masks : List ℕ) : Type 0 where
+  pub line : i < mostLines
+  pub inside : place ≤ pairWords
+  pub fits : lineBytes * i + lineBytes ≤ length out
+  pub few : n ≤ maxRecords
+  pub masked : n ≤ length masks
+
+pub record Paging (cells masks : List ℕ) (n lines : ℕ) (out : List ℕ) : Type 0 where
+  pub all : lines ≡ linesOf (length (pairsHeld (held cells masks n)))
+  pub fits : lineBytes * lines ≤ length out
+  pub few : n ≤ maxRecords
+  pub masked : n ≤ length masks
+
+pub record Checking (pages : List ℕ) (i lines low : ℕ) : Type 0 where
+  pub line : i < lines
+  pub few : lines ≤ mostLines
+  pub fits : lineBytes * lines ≤ length pages
+  pub inside : low ≤ pairWords

@@ -13,17 +13,17 @@ use crate::TEXT_WIDTH;
 use answers::Counted;
 use register::Register;
 ghost use mathlib.Core.Path.{_≡_};
-ghost use Prim.Native.Nat.{ℕ, _+_, _*_, _≤_, _<_, min};
-ghost use lib.ListN.{length, take, getD};
+ghost use Prim.Native.Nat.{_+_, _≤_, _<_, min};
+ghost use lib.ListN.{length, take};
 ghost use Rattle.book.specs.Causes.{maxRecords};
 ghost use Rattle.answers.specs.Answers.{Whole};
 ghost use Rattle.paths.specs.Questions.{over};
 ghost use Rattle.rowpairs.specs.Evaluation.{Held};
 ghost use Rattle.report.specs.Report.{decimal};
 ghost use Rattle.answers.specs.Written.{Wrote};
-ghost use Rattle.pages.specs.Pages.{linePairs, blanks, rightAligned, recordCell, pairCell, pairLine, headLine, pages};
+ghost use Rattle.pages.specs.Pages.{blanks, rightAligned, recordCell, pairCell, pairLine, headLine, pages};
 ghost use Rattle.pages.specs.PageCalls.{Prints};
-ghost use Rattle.pages.specs.Lines.{lineBytes, pairWords, mostLines, held, pairsHeld, linesOf};
+ghost use Rattle.pages.specs.Lines.{lineBytes, pairWords, mostLines, held, pairsHeld, linesOf, PairLine, Gathering, Laying, Paging};
 ghost use Rattle.pages.specs.Lines.{Gathered, Laid};
 
 fn put_blanks(count: usize, out: &mut [u8], at: usize) -> usize
@@ -80,8 +80,7 @@ fn put_cell(w: u32, out: &mut [u8], at: usize) -> usize
 
 // The line of the first `count` words.
 pub(crate) fn put_pair_line(words: &[u32], count: usize, out: &mut [u8], at: usize) -> usize
-    requires { ⌜ (count ≤ linePairs) × (count ≤ length (now words)) × ((i : ℕ) → i < count → getD (now words) i 0 < pairWords)
-        × (at + lineBytes ≤ length (now out)) ⌝ }
+    requires { ⌜ PairLine (now words) count at (now out) ⌝ }
     ensures { λ r. ⌜ Wrote at (pairLine (take count (now (words .entry)))) (now (out .entry)) (now (out .exit)) r ⌝ }
 {
     let mut end = at;
@@ -135,7 +134,7 @@ struct LineEnd {
 
 // The next six pairs of a relation of n records from `from` on, or those that are left.
 fn gather(cells: &[u64], masks: &[u16], n: usize, from: usize, words: &mut [u32]) -> LineEnd
-    requires { ⌜ (from ≤ pairWords) × (length (now words) ≡ linePairs) × (n ≤ maxRecords) × (n ≤ length (now masks)) ⌝ }
+    requires { ⌜ Gathering from (now words) n (now masks) ⌝ }
     ensures { λ r. ⌜ Gathered (held (now (cells .entry)) (now (masks .entry)) n) from (now (words .exit)) (r .place) (r .count) ⌝ }
 {
     let mut count = 0;
@@ -162,7 +161,7 @@ fn put_line(
     place: usize,
     out: &mut [u8],
 ) -> usize
-    requires { ⌜ (i < mostLines) × (place ≤ pairWords) × (lineBytes * i + lineBytes ≤ length (now out)) × (n ≤ maxRecords) × (n ≤ length (now masks)) ⌝ }
+    requires { ⌜ Laying i place (now out) n (now masks) ⌝ }
     ensures { λ r. ⌜ Laid (held (now (cells .entry)) (now (masks .entry)) n) (now (text .entry)) i place (now (out .entry)) (now (out .exit)) r ⌝ }
 {
     if i % PAGE_LINES == 0 {
@@ -178,8 +177,7 @@ fn put_line(
 
 // The pages of a relation's pairs, so many lines.
 fn put_pages(text: &[u8], cells: &[u64], masks: &[u16], n: usize, lines: usize, out: &mut [u8])
-    requires { ⌜ (lines ≡ linesOf (length (pairsHeld (held (now cells) (now masks) n)))) × (lineBytes * lines ≤ length (now out))
-        × (n ≤ maxRecords) × (n ≤ length (now masks)) ⌝ }
+    requires { ⌜ Paging (now cells) (now masks) n lines (now out) ⌝ }
     ensures { λ _. ⌜ now (out .exit)
         ≡ over (pages (now (text .entry)) (pairsHeld (held (now (cells .entry)) (now (masks .entry)) n))) (now (out .entry)) ⌝ }
 {

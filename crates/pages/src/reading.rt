@@ -13,16 +13,16 @@ use crate::printing::put_pair_line;
 use answers::Counted;
 ghost use mathlib.Core.Path.{_≡_};
 ghost use mathlib.Core.Bool.{true};
-ghost use Prim.Native.Nat.{ℕ, _+_, _*_, _≤_, _<_};
-ghost use lib.ListN.{length, take, drop, getD};
+ghost use Prim.Native.Nat.{_+_, _*_, _≤_, _<_};
+ghost use lib.ListN.{length, take, drop};
 ghost use Rattle.paths.specs.Expressions.{Expr};
 ghost use Rattle.paths.specs.Grammar.{accepted};
 ghost use Rattle.paths.specs.Verdicts.{verdict};
 ghost use Rattle.paths.specs.Questions.{over};
 ghost use Rattle.answers.specs.Written.{Wrote};
-ghost use Rattle.pages.specs.Pages.{linePairs, pairLine, headLine};
+ghost use Rattle.pages.specs.Pages.{pairLine, headLine};
 ghost use Rattle.pages.specs.PageCalls.{ReadsPages};
-ghost use Rattle.pages.specs.Lines.{lineBytes, pairWords, mostLines, value, cellWord, cellWords, wordsAt, wordsBefore};
+ghost use Rattle.pages.specs.Lines.{lineBytes, pairWords, mostLines, value, cellWord, cellWords, wordsAt, wordsBefore, PairLine, Checking};
 ghost use Rattle.pages.specs.Lines.{Rising, Line, Judged};
 
 // The number in the five bytes of a record, blanks as 0.
@@ -114,8 +114,7 @@ fn is_head(text: &[u8], page: usize, pages: &[u8], at: usize) -> bool
 
 // Is it the line of the first `count` words?
 fn is_pair_line(words: &[u32], count: usize, pages: &[u8], at: usize) -> bool
-    requires { ⌜ (count ≤ linePairs) × (count ≤ length (now words)) × ((i : ℕ) → i < count → getD (now words) i 0 < pairWords)
-        × (at + lineBytes ≤ length (now pages)) ⌝ }
+    requires { ⌜ PairLine (now words) count at (now pages) ⌝ }
     ensures { λ r. ⌜ (r ≡ true → take 73 (drop at (now (pages .entry))) ≡ pairLine (take count (now (words .entry))))
         × (take 73 (drop at (now (pages .entry))) ≡ pairLine (take count (now (words .entry))) → r ≡ true) ⌝ }
 {
@@ -143,7 +142,7 @@ fn least_pairs(i: usize, lines: usize) -> usize
 
 // Line i of so many, where the pairs before it are below `low`.
 fn check_line(text: &[u8], pages: &[u8], i: usize, lines: usize, low: u32) -> Checked
-    requires { ⌜ (i < lines) × (lines ≤ mostLines) × (lineBytes * lines ≤ length (now pages)) × (low ≤ pairWords) ⌝ }
+    requires { ⌜ Checking (now pages) i lines low ⌝ }
     ensures { λ r. ⌜ Line (now (text .entry)) (now (pages .entry)) i lines low (r .count) (r .next) ⌝ }
 {
     let fallen = Checked {

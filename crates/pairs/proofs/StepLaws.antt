@@ -44,7 +44,7 @@ use Rattle.query.specs.EvaluationLaws.{height-ready}
 use Rattle.query.specs.LetterLaws.{links-below, letters-crossed, zero-used, used-below}
 use Rattle.pairs.specs.declared.Stack.{Stack}
 use Rattle.pairs.specs.declared.Taken.{Taken}
-use Rattle.pairs.specs.Evaluation.{lettersOperand, pushed, turned, onTop, belowTop, takenNone, takenOne, takenTwo, Standing, Waiting}
+use Rattle.pairs.specs.Evaluation.{Holding, lettersOperand, pushed, turned, onTop, belowTop, takenNone, takenOne, takenTwo, Standing, Waiting}
 use Rattle.pairs.specs.Evaluation.{Totals, Placed, Room}
 use Rattle.pairs.specs.EvaluationLaws.{Unary, Binary, unary-one, binary-two, does-letters, does-inverse, does-one, does-two, standing-top, standing-kept}
 use Rattle.pairs.specs.EvaluationLaws.{standing-put, waits-next}
@@ -108,18 +108,19 @@ module _ {d : ℕ} {y : Item} {S : Stack} (P : Placed d S) (Q : Ready y (S .coun
     top-totals = totals-below (P .totals) (S .count - 1) (omega (arith, Q .found))
 
     -- what an operator on one operand asks
-    pub has-one : (1 ≤ S .count) × (S .count ≤ 19) × (length (S .operands) ≡ 19) × (onTop S .size ≤ S .end)
-    has-one = (omega (arith, Q .found), Q .few, P .slots, top-totals .0)
+    pub has-one : Holding 1 S
+    has-one = record { some = omega (arith, Q .found); few = Q .few; slots = P .slots; top = top-totals .0 }
 
     -- the same of the operand on top, read with the other sense
-    pub has-turned : (1 ≤ S .count) × (S .count ≤ 19) × (length (turned S .operands) ≡ 19) × (onTop (turned S) .size ≤ S .end)
+    pub has-turned : Holding 1 (turned S)
     has-turned =
-        let h = has-one in (
-          h .0,
-          h .1,
-          length-set (S .operands) (S .count - 1) (flipped (onTop S)) ∙ h .2,
-          rw (getD-set-same (S .operands) (S .count - 1) (flipped (onTop S)) nothing (omega arith)) (h .3),
-        )
+        let h = has-one in
+        record {
+          some = h .some;
+          few = h .few;
+          slots = length-set (S .operands) (S .count - 1) (flipped (onTop S)) ∙ h .slots;
+          top = rw (getD-set-same (S .operands) (S .count - 1) (flipped (onTop S)) nothing (omega arith)) (h .top);
+        }
 
   -- `^`
   pub takes-inverse : y ≡ Inverse → Takes d y S (takenOne Union (turned S))
@@ -133,7 +134,7 @@ module _ {d : ℕ} {y : Item} {S : Stack} (P : Placed d S) (Q : Ready y (S .coun
         below = S .count - 1;
       }))
       (sym (getD-set-same (S .operands) (S .count - 1) (flipped (onTop S)) nothing (omega arith)))
-      (record { below = omega arith; totals = t .2; first = omega arith; second = t .1; taking = taken (h .0) })
+      (record { below = omega arith; totals = t .2; first = omega arith; second = t .1; taking = taken (h .some) })
     where
       taken : 1 ≤ S .count → (g : Graph) (ws work : List ℕ) (u : ℕ → ℕ) (st : List Cells) → diagonal u ≡ zeroSteps g
           → ((f a : ℕ) → crossedWords ws f a ≡ crossedBy g (lettersIn f a)) → Standing (g .n) ws work (S .operands) (S .count) (S .end) st
@@ -166,7 +167,7 @@ module _ {d : ℕ} {y : Item} {S : Stack} (P : Placed d S) (Q : Ready y (S .coun
       let o = unary-one U in
       let t = top-totals (omega arith) in
       let h = has-one (omega arith) in
-      record { below = omega arith; totals = t .2; first = omega arith; second = t .1; taking = taken (h .0) }
+      record { below = omega arith; totals = t .2; first = omega arith; second = t .1; taking = taken (h .some) }
     where
       taken : 1 ≤ S .count → (g : Graph) (ws work : List ℕ) (u : ℕ → ℕ) (st : List Cells) → diagonal u ≡ zeroSteps g
           → ((f a : ℕ) → crossedWords ws f a ≡ crossedBy g (lettersIn f a))
@@ -192,8 +193,10 @@ module _ {d : ℕ} {y : Item} {S : Stack} (P : Placed d S) (Q : Ready y (S .coun
         × Totals d (S .operands) (S .count - 1 - 1) (S .end - onTop S .size - belowTop S .size)
     below-totals = let o = binary-two B in totals-below (top-totals (omega arith) .2) (S .count - 1 - 1) (omega (arith, Q .found))
 
-    pub has-two : (2 ≤ S .count) × (S .count ≤ 19) × (length (S .operands) ≡ 19) × (onTop S .size ≤ S .end) × (belowTop S .size ≤ S .end - onTop S .size)
-    has-two = let o = binary-two B in (omega (arith, Q .found), Q .few, P .slots, top-totals (omega arith) .0, below-totals .0)
+    pub has-two : Holding 2 S × (belowTop S .size ≤ S .end - onTop S .size)
+    has-two =
+        let o = binary-two B in
+        (record { some = omega (arith, Q .found); few = Q .few; slots = P .slots; top = top-totals (omega arith) .0 }, below-totals .0)
 
     pub takes-two : Takes d y S (takenTwo k S)
     takes-two =
@@ -201,7 +204,7 @@ module _ {d : ℕ} {y : Item} {S : Stack} (P : Placed d S) (Q : Ready y (S .coun
         let h = has-two in
         let t = top-totals (omega arith) in
         let t′ = below-totals in
-        record { below = omega arith; totals = t′ .2; first = t′ .1; second = t .1; taking = taken (h .0) }
+        record { below = omega arith; totals = t′ .2; first = t′ .1; second = t .1; taking = taken (h .0 .some) }
       where
         taken : 2 ≤ S .count → (g : Graph) (ws work : List ℕ) (u : ℕ → ℕ) (st : List Cells) → diagonal u ≡ zeroSteps g
             → ((f a : ℕ) → crossedWords ws f a ≡ crossedBy g (lettersIn f a))
@@ -297,7 +300,7 @@ module _ (n : ℕ) (ws used work : List ℕ) (S : Stack) where
       let Q = height-ready (R .height) in
       let h = has-one (R .placed) Q (omega arith) in
       let t = top-totals (R .placed) Q (omega arith) in
-      room-next R (turned-placed (h .0) (t .0) (placed-put (S .end - onTop S .size) top (flipped (onTop S)) (R .placed) (t .2) (t .1) (omega arith)))
+      room-next R (turned-placed (h .some) (t .0) (placed-put (S .end - onTop S .size) top (flipped (onTop S)) (R .placed) (t .2) (t .1) (omega arith)))
       (omega arith)
 
   inverse-waits : 1 ≤ S .count → S .count ≤ 19 → length (S .operands) ≡ 19

@@ -14,13 +14,16 @@
 --   Totals d os k at  the trees of the first k operands of os have at most d words each, and together `at`
 --   Placed d S        so it is of the operands of S, whatever they are
 --   Room d c S        and the code c is left to run on as many
+--   Holding k S       at least k operands wait, and the tree of the one on top lies before their end
+--   Space n work used rows
+--                        what is lent for a question about n records: work for 32 trees, the records in use, and rows
 -- Assumes nothing: these are definitions.
 use mathlib.Core.Path.{_≡_}
 use mathlib.Core.List.{List, [], _∷_}
-use Prim.Native.Nat.{ℕ, suc, _+_, _-_, _≤_}
+use Prim.Native.Nat.{ℕ, suc, _+_, _-_, _≤_, _*_}
 use lib.ListN.{length, take, drop, getD, set}
 use Rattle.k2.specs.PairSets.{Cells, IsSet}
-use Rattle.k2.specs.Trees.{treeWords}
+use Rattle.k2.specs.Trees.{treeWords, treeUnit}
 use Rattle.paths.specs.Expressions.{Expr}
 use Rattle.paths.specs.Chains.{Graph}
 use Rattle.paths.specs.Relations.{cells}
@@ -34,6 +37,8 @@ use Rattle.tree.specs.declared.operations.Operand.{Operand}
 use Rattle.tree.specs.Inner.{nothing, flipped, valued}
 use Rattle.pairs.specs.declared.Stack.{Stack}
 use Rattle.pairs.specs.declared.Taken.{Taken}
+use Rattle.book.specs.Causes.{maxRecords}
+use Rattle.k2.specs.Sizes.{rowsWords}
 
 abbrev pub lettersOperand : ℕ → ℕ → Operand
 lettersOperand forward against = record { size = 0; sense = Plain; forward = forward; against = against }
@@ -91,3 +96,16 @@ pub record Placed (d : ℕ) (S : Stack) : Type 0 where
 pub record Room (d : ℕ) (c : List ℕ) (S : Stack) : Type 0 where
   pub height : Height c (S .count)
   pub placed : Placed d S
+
+-- ---- what functions ask for
+pub record Holding (k : ℕ) (S : Stack) : Type 0 where
+  pub some : k ≤ S .count
+  pub few : S .count ≤ 19
+  pub slots : length (S .operands) ≡ 19
+  pub top : onTop S .size ≤ S .end
+
+pub record Space (n : ℕ) (work used rows : List ℕ) : Type 0 where
+  pub few : n ≤ maxRecords
+  pub room : 32 * treeUnit n ≤ length work
+  pub used-long : length used ≡ 16
+  pub rows-long : length rows ≡ rowsWords

@@ -2,9 +2,8 @@
 // last number is left in rows of bits, whose pairs are counted and listed. What a question promises is stated in crate query (specs/Asking.antt).
 ghost use mathlib.Core.Path.{_≡_};
 ghost use mathlib.Core.List.{List};
-ghost use Prim.Native.Nat.{ℕ, _*_, _-_, _<_, _≤_};
+ghost use Prim.Native.Nat.{ℕ, _-_, _<_, _≤_};
 ghost use lib.ListN.{length, take};
-ghost use Rattle.k2.specs.Sizes.{rowsWords};
 ghost use Rattle.book.specs.Book.{Book};
 ghost use Rattle.book.specs.Causes.{maxRecords};
 ghost use Rattle.k2.specs.Bits.{bitAt};
@@ -17,7 +16,7 @@ ghost use Rattle.paths.specs.Questions.{by-trees};
 ghost use Rattle.rows.specs.Rows.{flat};
 ghost use Rattle.query.specs.Evaluation.{Ready, Coded, Lettered};
 ghost use Rattle.query.specs.Asking.{AsksFor, AsksPairs};
-ghost use Rattle.pairs.specs.Evaluation.{lettersOperand, onTop, belowTop, takenOne, takenTwo, pushed, turned, Placed};
+ghost use Rattle.pairs.specs.Evaluation.{Holding, lettersOperand, onTop, belowTop, takenOne, takenTwo, pushed, turned, Placed, Space};
 ghost use Rattle.pairs.specs.Steps.{Takes, Goes, Going, Ends};
 use answers::Counted;
 use reader::Item;
@@ -86,7 +85,7 @@ fn inverse(stack: Stack) -> Stack
 
 // The operand on top, with an operation on it.
 fn on_one(stack: Stack, operation: tree::Operation) -> Taken
-    requires { ⌜ (1 ≤ stack .count) × (stack .count ≤ 19) × (length (stack .operands) ≡ 19) × (onTop stack .size ≤ stack .end) ⌝ }
+    requires { ⌜ Holding 1 stack ⌝ }
     ensures { λ r. ⌜ r ≡ takenOne operation stack ⌝ }
 {
     let top = stack.count - 1;
@@ -106,8 +105,7 @@ fn on_one(stack: Stack, operation: tree::Operation) -> Taken
 
 // The two operands on top, with an operation on them.
 fn on_two(stack: Stack, operation: tree::Operation) -> Taken
-    requires { ⌜ (2 ≤ stack .count) × (stack .count ≤ 19) × (length (stack .operands) ≡ 19)
-        × (onTop stack .size ≤ stack .end) × (belowTop stack .size ≤ stack .end - onTop stack .size) ⌝ }
+    requires { ⌜ Holding 2 stack × (belowTop stack .size ≤ stack .end - onTop stack .size) ⌝ }
     ensures { λ r. ⌜ r ≡ takenTwo operation stack ⌝ }
 {
     let top = stack.count - 1;
@@ -165,8 +163,7 @@ fn operator(
     stack: Stack,
     item: Item,
 ) -> Stack
-    requires { ⌜ (n ≤ maxRecords) × (32 * treeUnit n ≤ length (now work)) × (length (now used) ≡ 16) × (length (now rows) ≡ rowsWords)
-        × Ready item (stack .count) × Placed (treeUnit n) stack ⌝ }
+    requires { ⌜ Space n (now work) (now used) (now rows) × Ready item (stack .count) × Placed (treeUnit n) stack ⌝ }
     ensures { λ r. ⌜ Goes n (now (links .entry)) (now (used .entry)) item (now (work .entry)) (now (work .exit)) stack r ⌝ }
 {
     let taken = take_off(stack, item);
@@ -198,8 +195,7 @@ fn step(
     stack: Stack,
     item: Item,
 ) -> Stack
-    requires { ⌜ (n ≤ maxRecords) × (32 * treeUnit n ≤ length (now work)) × (length (now used) ≡ 16) × (length (now rows) ≡ rowsWords)
-        × Ready item (stack .count) × Placed (treeUnit n) stack ⌝ }
+    requires { ⌜ Space n (now work) (now used) (now rows) × Ready item (stack .count) × Placed (treeUnit n) stack ⌝ }
     ensures { λ r. ⌜ Goes n (now (links .entry)) (now (used .entry)) item (now (work .entry)) (now (work .exit)) stack r ⌝ }
 {
     match item {
@@ -218,8 +214,7 @@ fn evaluate(
     rows: &mut [u64],
     code: &[u64],
 ) -> Stack
-    requires { ⌜ (n ≤ maxRecords) × (32 * treeUnit n ≤ length (now work)) × (length (now used) ≡ 16) × (length (now rows) ≡ rowsWords)
-        × ((s : List ℕ) × (e : Expr) × Coded s e (now code)) ⌝ }
+    requires { ⌜ Space n (now work) (now used) (now rows) × ((s : List ℕ) × (e : Expr) × Coded s e (now code)) ⌝ }
     ensures { λ r. ⌜ Going n (now (links .entry)) (now (used .entry)) (now (code .entry)) (now (work .exit)) r (length (now (code .entry)) - 1) ⌝ }
 {
     let mut stack = Stack {
@@ -246,8 +241,7 @@ fn last(
     stack: Stack,
     item: Item,
 )
-    requires { ⌜ (n ≤ maxRecords) × (32 * treeUnit n ≤ length (now work)) × (length (now used) ≡ 16) × (length (now rows) ≡ rowsWords)
-        × Ready item (stack .count) × Placed (treeUnit n) stack ⌝ }
+    requires { ⌜ Space n (now work) (now used) (now rows) × Ready item (stack .count) × Placed (treeUnit n) stack ⌝ }
     ensures { λ _. ⌜ Ends n (now (links .entry)) (now (used .entry)) item (now (work .entry)) stack (now (rows .exit)) ⌝ }
 {
     let taken = take_off(stack, item);
@@ -258,8 +252,7 @@ fn last(
 
 // The whole code: its value is left in rows.
 fn run(work: &mut [u64], n: usize, links: &[u32], used: &[u64], rows: &mut [u64], code: &[u64])
-    requires { ⌜ (n ≤ maxRecords) × (32 * treeUnit n ≤ length (now work)) × (length (now used) ≡ 16) × (length (now rows) ≡ rowsWords)
-        × ((s : List ℕ) × (e : Expr) × Coded s e (now code)) ⌝ }
+    requires { ⌜ Space n (now work) (now used) (now rows) × ((s : List ℕ) × (e : Expr) × Coded s e (now code)) ⌝ }
     ensures { λ _. ⌜ ((b : Book) → Lettered b n (now (links .entry)) (bitAt (now (used .entry))) → (s : List ℕ) (e : Expr) → Coded s e (now (code .entry))
         → bitAt (now (rows .exit)) ≡ flat (cells (asked b) e)) ⌝ }
 {

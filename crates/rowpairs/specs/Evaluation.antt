@@ -34,6 +34,10 @@
 --                         the same asked of the links and marks of n records
 --   Members l f           the bits of f are the members of the list l
 --   JoinsSome f l t       t says whether f is 1 at some member of the list l
+--   Joining n cells masks x row
+--                        a relation of n records with a mask for each, one of them, and a row of bits
+--   Answering n links marks need
+--                        what was read of a register of n records, and the work that a question needs by either engine
 -- Assumes nothing: these are definitions.
 use mathlib.Core.Path.{_≡_}
 use mathlib.Core.Bool.{Bool, true, false}
@@ -43,7 +47,7 @@ use Prim.Native.Nat.{ℕ, zero, suc, _+_, _-_, _*_, _<_, _≤_}
 use lib.ListN.{length, take, drop, getD}
 use Rattle.book.specs.Basics.{In}
 use Rattle.book.specs.Book.{Book}
-use Rattle.book.specs.Causes.{maxRecords}
+use Rattle.book.specs.Causes.{maxRecords, maxLinks}
 use Rattle.k2.specs.PairSets.{Cells, union, transpose, product, closure}
 use Rattle.paths.specs.Expressions.{Expr}
 use Rattle.paths.specs.Grammar.{Verdict}
@@ -57,6 +61,7 @@ use Rattle.reader.specs.Code.{itemOf, does, run}
 use Rattle.reader.specs.Running.{operands}
 use Rattle.bits.specs.BitSets.{Gap}
 use Rattle.grid.specs.Grid.{first, second}
+use Rattle.paths.specs.Questions.{Engine, workFor}
 use Rattle.query.specs.Asking.{maxPairs}
 use Rattle.query.specs.Leaving.{Leaves}
 use Rattle.query.specs.Evaluation.{relations, most-waiting, Coded, Height, usedBelow, Lettered}
@@ -166,3 +171,15 @@ pub record Members (l : List ℕ) (f : ℕ → ℕ) : Type 0 where
 pub record JoinsSome (f : ℕ → ℕ) (l : List ℕ) (t : Bool) : Type 0 where
   pub found : t ≡ true → (y : ℕ) × In y l × (f y ≡ 1)
   pub none : t ≡ false → (y : ℕ) → In y l → f y ≡ 1 → ⊥
+
+pub record Joining (n : ℕ) (cells masks : List ℕ) (x : ℕ) (row : List ℕ) : Type 0 where
+  pub held : Held n (length cells)
+  pub masked : n ≤ length masks
+  pub inside : x < n
+  pub row-long : 16 ≤ length row
+
+pub record Answering (n : ℕ) (links marks : List ℕ) (need : ℕ) : Type 0 where
+  pub few : n ≤ maxRecords
+  pub marked : n ≤ length marks
+  pub few-links : length links ≤ maxLinks
+  pub needed : (d : Engine) × (need ≡ workFor d n)

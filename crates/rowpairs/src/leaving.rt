@@ -17,7 +17,7 @@ ghost use Rattle.paths.specs.Verdicts.{verdict};
 ghost use Rattle.query.specs.Asking.{maxPairs, Relates};
 ghost use Rattle.query.specs.Leaving.{Leaves};
 ghost use Rattle.answers.specs.declared.Counted.the-variants.{Count};
-ghost use Rattle.rowpairs.specs.Evaluation.{Held, relationIn, Column, Known, Relating, RelatingOver, Members, JoinsSome};
+ghost use Rattle.rowpairs.specs.Evaluation.{Held, relationIn, Column, Known, Relating, RelatingOver, Members, JoinsSome, Joining};
 
 // The words of a relation's rows: 1,024 rows of 1,024 bits.
 const ROW_WORDS: usize = 16384;
@@ -99,7 +99,7 @@ pub fn record_row(records: &[u16]) -> [u64; RECORD_WORDS]
 
 // Whether a relation of n records joins record x to some record of a row of bits.
 pub fn joins_some(cells: &[u64], masks: &[u16], n: usize, x: usize, row: &[u64]) -> bool
-    requires { ⌜ Held n (length (now cells)) × (n ≤ length (now masks)) × (x < n) × (16 ≤ length (now row)) ⌝ }
+    requires { ⌜ Joining n (now cells) (now masks) x (now row) ⌝ }
     ensures { λ t. ⌜ ((l : List ℕ) → Members l (bitAt (now (row .entry))) → ((y : ℕ) → In y l → y < n)
         → JoinsSome (relationIn (now (cells .entry)) (now (masks .entry)) n x) l t) ⌝ }
 {

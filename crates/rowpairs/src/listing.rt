@@ -17,7 +17,7 @@ ghost use Rattle.query.specs.Asking.{AsksFor, AsksPairs, AsksRows};
 ghost use Rattle.rowpairs.specs.Labels.{Alone, LetterListed};
 ghost use Rattle.register.specs.declared.Register.{Register};
 ghost use Rattle.register.specs.Reads.{ReadOf};
-ghost use Rattle.rowpairs.specs.Evaluation.{Runnable, Enough, ValueListed, KnownOf};
+ghost use Rattle.rowpairs.specs.Evaluation.{Runnable, Enough, ValueListed, KnownOf, Answering};
 
 // A link's word is label * LABEL_UNIT + its pair word.
 const LABEL_UNIT: u32 = 1048576;
@@ -106,7 +106,7 @@ fn answer(
     work: &mut [u64],
     list: &mut [u32],
 ) -> Counted
-    requires { ⌜ (n ≤ maxRecords) × (n ≤ length (now marks)) × (length (now links) ≤ maxLinks) × ((d : Engine) × (need ≡ workFor d n)) ⌝ }
+    requires { ⌜ Answering n (now links) (now marks) need ⌝ }
     ensures { λ a. ⌜ ((d : Engine) → need ≡ workFor d n → (r : Register) → KnownOf r n (now (links .entry)) (now (marks .entry))
         → AsksFor d r (verdict (now (text .entry))) (length (now (work .entry))) (now (list .entry)) (now (list .exit)) a) ⌝ }
 {

@@ -10,15 +10,21 @@
 --   below b g         the bits g before place b
 --   withRow i g f     f with the bits g as row i
 --   rowsTo i a b      the set a in the rows below i, b in the others
+--   Serving a i b j common
+--                        row i of a and row j of b, and words that both may have bits in
+--   Multiplying a i mask columns list m row
+--                        row i of a with its mask, the columns with the list of those occupied, and the row written
 -- Assumes nothing: these are definitions.
 use mathlib.Core.Path.{_≡_}
 use mathlib.Core.List.{List}
-use Prim.Native.Nat.{ℕ, _+_, _*_, _/_, _%_, _<_, min}
+use Prim.Native.Nat.{ℕ, _+_, _*_, _/_, _%_, _<_, min, _≤_}
 use lib.Dec.{ltb, eqb}
-use lib.ListN.{getD}
+use lib.ListN.{getD, length}
 use Rattle.book.specs.Basics.{pick}
 use Rattle.k2.specs.Bits.{digit}
 use Rattle.k2.specs.PairSets.{Cells, most}
+use Rattle.k2.specs.Sizes.{rowsWords}
+use Rattle.book.specs.Causes.{maxRecords}
 
 abbrev pub EmptyRow : (ℕ → ℕ) → ℕ → Type 0
 EmptyRow f i = (k : ℕ) → k < 1024 → f (i * 1024 + k) ≡ 0
@@ -55,3 +61,21 @@ withRow i g f p = pick (eqb (p / 1024) i) (g (p % 1024)) (f p)
 
 unfoldable pub rowsTo : ℕ → Cells → Cells → Cells
 rowsTo i a b x y = pick (ltb x i) (a x y) (b x y)
+
+-- ---- what functions ask for
+pub record Serving (a : List ℕ) (i : ℕ) (b : List ℕ) (j common : ℕ) : Type 0 where
+  pub a-long : length a ≡ rowsWords
+  pub i-in : i < maxRecords
+  pub b-long : length b ≡ rowsWords
+  pub j-in : j < maxRecords
+  pub some : 0 < common
+  pub few : common < 65536
+
+pub record Multiplying (a : List ℕ) (i mask : ℕ) (columns list : List ℕ) (m : ℕ) (row : List ℕ) : Type 0 where
+  pub a-long : length a ≡ rowsWords
+  pub i-in : i < maxRecords
+  pub mask-few : mask < 65536
+  pub columns-long : length columns ≡ rowsWords
+  pub list-long : length list ≡ maxRecords
+  pub m-most : m ≤ maxRecords
+  pub row-long : length row ≡ 16

@@ -13,7 +13,7 @@ ghost use Rattle.k2.specs.PairSets.{Cells, IsSet, union, intersection, differen
 ghost use Rattle.bits.specs.BitSets.{none};
 ghost use Rattle.rows.specs.Rows.{flat};
 ghost use Rattle.rows.specs.RowSets.{noPairs, crossedWords, RowsOf, pairsIn};
-ghost use Rattle.rows.specs.Steps.{Masked, rowAt, Occupied, Masks, Common, served, below, withRow};
+ghost use Rattle.rows.specs.Steps.{Masked, rowAt, Occupied, Masks, Common, served, below, withRow, Serving, Multiplying};
 
 // A row has as many columns as there may be records; and so many cells are there in all.
 const COLUMNS: usize = book::MAX_RECORDS;
@@ -205,7 +205,7 @@ fn occupied(rows: &[u64], n: usize, list: &mut [u32]) -> usize
 // first to the last of those in common, and in each over the records of row i from the first of row j on, lowest first, each tried in row j; it is
 // left at the first that serves. A square whose words have no bit in common is passed at once.
 fn serves(a: &[u64], i: usize, b: &[u64], j: usize, common: u32) -> u64
-    requires { ⌜ (length (now a) ≡ rowsWords) × (i < maxRecords) × (length (now b) ≡ rowsWords) × (j < maxRecords) × (0 < common) × (common < 65536) ⌝ }
+    requires { ⌜ Serving (now a) i (now b) j common ⌝ }
     ensures { λ r. ⌜ (Common (bitAt (now (a .entry))) (bitAt (now (b .entry))) i j common
         → r ≡ served (bitAt (now (a .entry))) (bitAt (now (b .entry))) i j) ⌝ }
 {
@@ -244,9 +244,7 @@ fn product_row(
     m: usize,
     row: &mut [u64],
 )
-    requires { ⌜ (length (now a) ≡ rowsWords) × (i < maxRecords) × (mask < 65536) × (length (now columns) ≡ rowsWords)
-        × (length (now list) ≡ maxRecords) × (m ≤ maxRecords)
-        × (length (now row) ≡ 16) ⌝ }
+    requires { ⌜ Multiplying (now a) i mask (now columns) (now list) m (now row) ⌝ }
     ensures { λ _. ⌜ ((n : ℕ) → Masked (bitAt (now (a .entry))) i mask → Occupied (bitAt (now (columns .entry))) n (rowAt n m (now (list .entry))) m
         → Masks (bitAt (now (columns .entry))) m (now (list .entry)) → bitAt (now (row .entry)) ≡ none
         → bitAt (now (row .exit)) ≡ below n (served (bitAt (now (a .entry))) (bitAt (now (columns .entry))) i)) ⌝ }

@@ -4,31 +4,32 @@
 --   stamp-none, stamp-more
 --                    marks written at the states of a set: none, the lowest that is left
 --   bit-off, bit-at  the set of one state
---   kept-out, kept-none, kept-no, kept-yes
---                    the states of a set with a given number: of no record, none looked at, one that has it not, one that has it
---   Agree w a m d left, agree-none, agree-more, agree-kept
---                    the states of m that are not left have the number d at the record a: none looked at, one more, all of them
+--   kept-out         the states of a set with a given number: of no record
+--   Sifted w a m d left r, sifted-none, sifted-same, sifted-out, sifted-kept
+--                    r is the set m without those that are not left and have another number than d at the record a: none looked at, one that has it, one
+--                    that has it not and is taken out, all of them
 --   chosen-none, arc-small, chosen-first, chosen-more
 --                    the smallest step: no arc looked at, arcs are small, arcs of other records, one arc more
 -- Assumes nothing.
 use mathlib.Core.Path.{_≡_, refl, sym, ap, _∙_, subst}
 use mathlib.Core.Logic.{_⊎_, inl, inr}
 use mathlib.Core.List.{List}
-use Prim.Native.Nat.{ℕ, _*_, _+_, _^_, _≤_, _<_, max}
+use Prim.Native.Nat.{ℕ, _*_, _+_, _-_, _^_, _≤_, _<_}
 use native.Mathlib.Omega.{arith}
-use lib.Bits.{bitAnd, bitOr}
+use lib.Bits.{bitAnd}
 use lib.ListN.{length, getD, set}
+use lib.Pow.{pow-lt}
 use lib.Seq.{getD-set-same, getD-set-other}
 use borrow.Author.Tests.{eq-eqb}
 use Rattle.k2.specs.Bits.{digit}
-use Rattle.k2.specs.DigitLaws.{digit-none, digit-or, digit-and, digit-pow}
+use Rattle.k2.specs.DigitLaws.{digit-none, digit-and, digit-not, digit-pow, digit-big}
 use Rattle.automaton.specs.Automata.{On}
-use Rattle.automaton.specs.SetLaws.{on-max, on-min, on-is}
+use Rattle.automaton.specs.SetLaws.{on-min, on-is}
 use Rattle.automaton.specs.LevelLaws.{Which, less, same, more, which}
 use Rattle.arcs.specs.Arcs.{arcFrom, arcTo, arcLetter, arcStepWord}
 use Rattle.search.specs.Levels.{numberAt, Stamped}
 use Rattle.search.specs.Steps.{Kept, Serve, Chosen, Better, no-states, not-less, less as smaller}
-use Rattle.automaton.specs.LowestLaws.{none-on, some-digit, below-pow, Lowest, gone, Among}
+use Rattle.automaton.specs.LowestLaws.{none-on, Digit, is-on, is-off, digit-of, some-digit, below-pow, Lowest, gone, Among}
 
 -- ---- a number written
 module _ (w : List ℕ) (r q v : ℕ) where
@@ -70,46 +71,62 @@ bit-off q j o = on-is q j (rw digit-pow at o)
 pub bit-at : (q : ℕ) → On (digit (2 ^ q) q)
 bit-at q = rw (digit-pow, eq-eqb q q refl) (omega arith)
 
-pub kept-out : (w : List ℕ) (n a m d : ℕ) → n ≤ a → Kept w n a m d 0 0
+pub kept-out : (w : List ℕ) (n a m d : ℕ) → n ≤ a → Kept w n a m d 0
 kept-out w n a m d h = record { from = λ q o. absurd (none-on q o); all = λ q l. absurd (omega arith) }
 
-pub kept-none : (w : List ℕ) (n a m d : ℕ) → Kept w n a m d m 0
-kept-none w n a m d = record { from = λ q o. absurd (none-on q o); all = λ q h o e. absurd (omega arith) }
+pub record Sifted (w : List ℕ) (a m d left r : ℕ) : Type 0 where
+  pub among : (q : ℕ) → On (digit r q) → On (digit m q)
+  pub from : (q : ℕ) → On (digit r q) → digit left q ≡ 0 → (q < 64) × (numberAt w a q ≡ d)
+  pub all : (q : ℕ) → q < 64 → On (digit m q) → numberAt w a q ≡ d → On (digit r q)
 
-module _ {w : List ℕ} {n a m d left r k left′ : ℕ} (I : Kept w n a m d left r) (A : Among left m) (L : Lowest left k left′) where
-  pub kept-no : (numberAt w a k ≡ d → ⊥) → Kept w n a m d left′ r
-  kept-no g = record { from = I .from; all = λ q h o e f. al q h o f (gone L q e) }
+pub sifted-none : (w : List ℕ) (a m d : ℕ) → Sifted w a m d m m
+sifted-none w a m d = record { among = λ q o. o; from = λ q o e. absurd (omega arith); all = λ q h o f. o }
+
+module _ {w : List ℕ} {a m d left r k left′ : ℕ} (I : Sifted w a m d left r) (L : Lowest left k left′) where
+  pub sifted-same : numberAt w a k ≡ d → Sifted w a m d left′ r
+  sifted-same g = record { among = I .among; from = λ q o e. go q o (gone L q e); all = I .all }
     where
-      al : (q : ℕ) → a < n → On (digit m q) → numberAt w a q ≡ d → (digit left q ≡ 0) ⊎ (q ≡ k) → On (digit r q)
-      al q h o f (inl e) = I .all q h o e f
-      al q h o f (inr e) = absurd (g (rw e at f))
+      go : (q : ℕ) → On (digit r q) → (digit left q ≡ 0) ⊎ (q ≡ k) → (q < 64) × (numberAt w a q ≡ d)
+      go q o (inl e) = I .from q o e
+      go q o (inr e) = (let l = L .small in omega arith, rw e g)
 
-  pub kept-yes : a < n → numberAt w a k ≡ d → Kept w n a m d left′ (bitOr r (2 ^ k))
-  kept-yes l g = record { from = λ q o. fm q (on-max _ _ (rw digit-or at o)); all = λ q h o e f. rw digit-or (al q h o f (gone L q e)) }
+  pub sifted-out : (numberAt w a k ≡ d → ⊥) → Sifted w a m d left′ (bitAnd r ((2 ^ 64 - 1) - 2 ^ k))
+  sifted-out g =
+      record {
+        among = λ q o. I .among q (both q o .0);
+        from = λ q o e. fm q (both q o) (gone L q e);
+        all = λ q h o f. al q h o f (digit-of (digit (2 ^ k) q));
+      }
     where
-      fm : (q : ℕ) → On (digit r q) ⊎ On (digit (2 ^ k) q) → (q < 64) × (a < n) × On (digit m q) × (numberAt w a q ≡ d)
-      fm q (inl o) = I .from q o
-      fm q (inr o) = let e = bit-off k q o in (let z = L .small in omega arith, l, rw e (A k (L .on)), rw e g)
+      both : (q : ℕ) → On (digit (bitAnd r ((2 ^ 64 - 1) - 2 ^ k)) q) → On (digit r q) × On (digit ((2 ^ 64 - 1) - 2 ^ k) q)
+      both q o = on-min _ _ (rw digit-and at o)
 
-      al : (q : ℕ) → a < n → On (digit m q) → numberAt w a q ≡ d → (digit left q ≡ 0) ⊎ (q ≡ k) → On (max (digit r q) (digit (2 ^ k) q))
-      al q h o f (inl e) = let z = I .all q h o e f in omega arith
-      al q h o f (inr e) = let z : On (digit (2 ^ k) q) = rw e (bit-at k) in omega arith
+      without : (q : ℕ) → q < 64 → digit ((2 ^ 64 - 1) - 2 ^ k) q ≡ 1 - digit (2 ^ k) q
+      without q h = digit-not 64 q (2 ^ k) (pow-lt {j = 64} (L .small)) h
 
-pub record Agree (w : List ℕ) (a m d left : ℕ) : Type 0 where
-  pub at : (q : ℕ) → On (digit m q) → digit left q ≡ 0 → (q < 64) × (numberAt w a q ≡ d)
+      fm : (q : ℕ) → On (digit r q) × On (digit ((2 ^ 64 - 1) - 2 ^ k) q) → (digit left q ≡ 0) ⊎ (q ≡ k) → (q < 64) × (numberAt w a q ≡ d)
+      fm q o (inl e) = I .from q (o .0) e
+      fm q o (inr e) =
+          let y : On (digit ((2 ^ 64 - 1) - 2 ^ k) k) = rw e at (o .1) in
+          let z = without k (L .small) in
+          let x = bit-at k in
+          absurd (omega arith)
 
-pub agree-none : (w : List ℕ) (a m d : ℕ) → Agree w a m d m
-agree-none w a m d = record { at = λ q o e. absurd (omega arith) }
+      al : (q : ℕ) → q < 64 → On (digit m q) → numberAt w a q ≡ d → Digit (digit (2 ^ k) q) → On (digit (bitAnd r ((2 ^ 64 - 1) - 2 ^ k)) q)
+      al q h o f (is-on x) = absurd (g (rw (bit-off k q x) at f))
+      al q h o f (is-off e) = let y = I .all q h o f in let z = without q h in rw digit-and (omega arith)
 
-pub agree-more : {w : List ℕ} {a m d left k left′ : ℕ} → Agree w a m d left → Lowest left k left′ → numberAt w a k ≡ d → Agree w a m d left′
-agree-more {w} {a} {m} {d} {left} {k} {left′} A L g = record { at = λ q o e. go q o (gone L q e) }
+pub sifted-kept : {w : List ℕ} {n a m d r : ℕ} → a < n → m < 2 ^ 64 → Sifted w a m d 0 r → Kept w n a m d r
+sifted-kept {m = m} l h I =
+    record {
+      from = λ q o. (let z = I .from q o (digit-none q) in (z .0, l, I .among q o, z .1));
+      all = λ q g o f. I .all q (small q o (which q 64)) o f;
+    }
   where
-    go : (q : ℕ) → On (digit m q) → (digit left q ≡ 0) ⊎ (q ≡ k) → (q < 64) × (numberAt w a q ≡ d)
-    go q o (inl e) = A .at q o e
-    go q o (inr e) = (let l = L .small in omega arith, rw e g)
-
-pub agree-kept : {w : List ℕ} {n a m d : ℕ} → a < n → Agree w a m d 0 → Kept w n a m d 0 m
-agree-kept l A = record { from = λ q o. (let z = A .at q o (digit-none q) in (z .0, l, o, z .1)); all = λ q h o e f. o }
+    small : (q : ℕ) → On (digit m q) → Which q 64 → q < 64
+    small q o (less f) = f
+    small q o (same f) = absurd (let z = digit-big 64 q m h (omega arith) in omega arith)
+    small q o (more f) = absurd (let z = digit-big 64 q m h (omega arith) in omega arith)
 
 -- ---- the smallest step
 pub chosen-none : (cs es w seen : List ℕ) (n r follows d k : ℕ) → Chosen cs es w seen n r follows d k k 65536 0
@@ -151,7 +168,7 @@ module _ {cs es w seen : List ℕ} {n r follows d k p word states : ℕ} (I : Ch
       go j q h s (inl f) = subst (λ (i : ℕ). Leads word states i q) (sym f) (at q (subst (λ (i : ℕ). Serve cs es w seen n r follows d i q) f s))
 
   module _ (K : ℕ) (at : arcFrom cs m ≡ r)
-      (Q : Kept w n (arcTo cs m) (bitAnd (bitAnd follows (getD es (arcLetter cs m) 0)) (getD seen (arcTo cs m) 0)) d 0 K) where
+      (Q : Kept w n (arcTo cs m) (bitAnd (bitAnd follows (getD es (arcLetter cs m) 0)) (getD seen (arcTo cs m) 0)) d K) where
     -- the states kept are those that serve
     serves : (q : ℕ) → On (digit K q) → Serve cs es w seen n r follows d m q
     serves q o =
@@ -162,7 +179,7 @@ module _ {cs es w seen : List ℕ} {n r follows d k p word states : ℕ} (I : Ch
 
     served : (q : ℕ) → Serve cs es w seen n r follows d m q → On (digit K q)
     served q s =
-        Q .all q (s .to) (rw (digit-and, digit-and) (let a = s .among in let b = s .enters in let c = s .seen-at in omega arith)) (digit-none q) (s .number)
+        Q .all q (s .to) (rw (digit-and, digit-and) (let a = s .among in let b = s .enters in let c = s .seen-at in omega arith)) (s .number)
 
     pub chosen-more : {word′ states′ : ℕ} → Better word states (arcStepWord cs m) K word′ states′ → Chosen cs es w seen n r follows d k u word′ states′
     chosen-more (no-states e) = chosen-same (λ q s. absurd (none-on q (rw e at (served q s))))

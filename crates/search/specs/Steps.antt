@@ -1,6 +1,6 @@
 -- The walk forward: what the functions give, and what the search answers.
---   Kept w n a m d left r
---                   r are the states of m that are not left and whose number at the record a, below n, is d
+--   Kept w n a m d r
+--                   r are the states of m whose number at the record a, below n, is d
 --   Serve cs es w seen n r follows d j q
 --                   arc j leads from the record r to the state q, one of follows, whose number there is d
 --   Chosen cs es w seen n r follows d k p word states
@@ -29,9 +29,9 @@ use Rattle.search.specs.Levels.{Setting, numberAt, distance}
 use Rattle.search.specs.declared.Found.{Found}
 use Rattle.search.specs.declared.Found.the-variants.{Steps, Nowhere, Short}
 
-pub record Kept (w : List ℕ) (n a m d left r : ℕ) : Type 0 where
+pub record Kept (w : List ℕ) (n a m d r : ℕ) : Type 0 where
   pub from : (q : ℕ) → On (digit r q) → (q < 64) × (a < n) × On (digit m q) × (numberAt w a q ≡ d)
-  pub all : (q : ℕ) → a < n → On (digit m q) → digit left q ≡ 0 → numberAt w a q ≡ d → On (digit r q)
+  pub all : (q : ℕ) → a < n → On (digit m q) → numberAt w a q ≡ d → On (digit r q)
 
 pub record Serve (cs es w seen : List ℕ) (n r follows d j q : ℕ) : Type 0 where
   pub from : arcFrom cs j ≡ r

@@ -6,17 +6,16 @@ use crate::levels::backward;
 use crate::walk::forward;
 ghost use mathlib.Core.Path.{_≡_};
 ghost use mathlib.Core.Bool.{true};
-ghost use Prim.Native.Nat.{_*_, _<_, _≤_};
 ghost use lib.ListN.{length};
-ghost use Rattle.book.specs.Causes.{maxRecords, maxLinks};
 ghost use Rattle.paths.specs.Expressions.{Expr};
 ghost use Rattle.paths.specs.Chains.{Graph};
 ghost use Rattle.paths.specs.ChainLaws.{Inside};
 ghost use Rattle.automaton.specs.Automata.{automaton};
 ghost use Rattle.automaton.specs.Masks.{Masked};
-ghost use Rattle.arcs.specs.Arcs.{maxArcs, Spans};
+ghost use Rattle.arcs.specs.Arcs.{Spans};
 ghost use Rattle.search.specs.Levels.{Setting};
 ghost use Rattle.search.specs.Steps.{Untouched, Answered};
+ghost use Rattle.search.specs.Room.{SearchAsked, ChainAsked};
 
 // The first of the shortest chains between the two ends along the arcs that are of use, by the tables of an automaton.
 fn along(
@@ -28,8 +27,7 @@ fn along(
     work: &mut [u64],
     out: &mut [u32],
 ) -> Found
-    requires { ⌜ (length (now arcs) ≤ maxArcs) × (ends .n ≤ maxRecords) × (length (now follow) ≡ 64) × (length (now predecessors) ≡ 64)
-        × (length (now enter) ≡ 64) × (ends .from < ends .n) × (ends .to < ends .n) × (ends .n * 64 ≤ length (now work)) ⌝ }
+    requires { ⌜ SearchAsked (now arcs) (now follow) (now predecessors) (now enter) ends (now work) ⌝ }
     ensures { λ r. ⌜ Untouched (now (out .entry)) (now (out .exit)) r
         × ((g : Graph) (e : Expr) → Setting g (automaton e) (now (follow .entry)) (now (predecessors .entry)) (now (enter .entry)) (ends .accepting) (ends .n)
         (now (arcs .entry)) (length (now (arcs .entry))) → g .inUse (ends .from) ≡ true → g .inUse (ends .to) ≡ true
@@ -64,8 +62,7 @@ pub fn first_chain(
     work: &mut [u64],
     out: &mut [u32],
 ) -> Found
-    requires { ⌜ (length (now links) ≤ maxLinks) × (ends .n ≤ maxRecords) × (length (now follow) ≡ 64) × (length (now predecessors) ≡ 64)
-        × (length (now enter) ≡ 64) × (ends .from < ends .n) × (ends .to < ends .n) × (ends .n * 64 ≤ length (now work)) ⌝ }
+    requires { ⌜ ChainAsked (now links) (now follow) (now predecessors) (now enter) ends (now work) ⌝ }
     ensures { λ r. ⌜ Untouched (now (out .entry)) (now (out .exit)) r
         × ((g : Graph) (e : Expr) → g .n ≡ ends .n → Inside g → Spans (now (links .entry)) (length (now (links .entry))) g
         → Masked (now (follow .entry)) (now (predecessors .entry)) (now (enter .entry)) (ends .accepting) (automaton e) → g .inUse (ends .from) ≡ true

@@ -14,14 +14,13 @@ ghost use Rattle.book.specs.Causes.{maxRecords};
 ghost use Rattle.paths.specs.Chains.{Graph};
 ghost use Rattle.automaton.specs.Automata.{Automaton};
 ghost use Rattle.arcs.specs.Arcs.{maxArcs, arcTo};
-ghost use Rattle.arcs.specs.Index.{Indexed};
 ghost use Rattle.search.specs.Levels.{Setting, Stamped, Committed, Sought};
 ghost use Rattle.search.specs.Frontiers.{Levelling, Added, Listed, Frontier, Zero};
+ghost use Rattle.search.specs.Room.{ByIndex, Queue, CrossAsked, CommitAsked, LevelsAsked};
 
 // The states of the entry, if its record is below n, besides those of next, whose records are on the list. How many are they now?
 pub(crate) fn add_states(next: &mut [u64], list: &mut [u16], entry: Entry) -> usize
-    requires { ⌜ (entry .n ≤ maxRecords) × (length (now next) ≡ maxRecords) × (length (now list) ≡ maxRecords)
-        × (entry .at < maxRecords) × Listed (now list) (entry .queued) (entry .n) (now next) ⌝ }
+    requires { ⌜ Queue (now next) (now list) entry ⌝ }
     ensures { λ k. ⌜ Listed (now (list .exit)) k (entry .n) (now (next .exit))
         × Added (now (next .entry)) (entry .n) (entry .at) (entry .states) (now (next .exit)) ⌝ }
 {
@@ -53,11 +52,7 @@ fn into(
     list: &mut [u16],
     entry: Entry,
 ) -> usize
-    requires { ⌜ (length (now arcs) ≤ maxArcs) × (maxRecords + length (now arcs) ≤ length (now index))
-        × (length (now predecessors) ≡ 64) × (length (now enter) ≡ 64)
-        × (entry .at < maxRecords) × (length (now seen) ≡ maxRecords) × (entry .n ≤ maxRecords) × (length (now next) ≡ maxRecords)
-        × (length (now list) ≡ maxRecords) × Indexed (arcTo (now arcs)) (length (now arcs)) (now index)
-        × Listed (now list) (entry .queued) (entry .n) (now next) ⌝ }
+    requires { ⌜ (length (now predecessors) ≡ 64) × CrossAsked arcTo (now arcs) (now index) (now enter) (now seen) (now next) (now list) entry ⌝ }
     ensures { λ k. ⌜ Listed (now (list .exit)) k (entry .n) (now (next .exit))
         × ((cur records : List ℕ) (i : ℕ) → entry .at ≡ getD records i 0 → entry .states ≡ getD cur (entry .at) 0
         → Levelling (now (arcs .entry)) (now (predecessors .entry)) (now (enter .entry)) cur (now (seen .entry)) (entry .n) (length (now (arcs .entry))) records
@@ -76,16 +71,13 @@ fn into(
             entry.states & enter[arc / LETTER_UNIT % LETTERS],
         );
         let states = before & !seen[from];
-        queued = add_states(
-            next,
-            list,
-            Entry {
-                at: from,
-                states,
-                n,
-                queued,
-            },
-        );
+        let added = Entry {
+            at: from,
+            states,
+            n,
+            queued,
+        };
+        queued = add_states(next, list, added);
         cursor = arcs::next_arc(index, j);
     }
     queued
@@ -114,8 +106,7 @@ fn commit(
     records: &mut [u32],
     masks: &mut [u64],
 )
-    requires { ⌜ (length (now next) ≡ maxRecords) × (length (now records) ≡ maxRecords) × (length (now masks) ≡ maxRecords) × (length (now list) ≤ maxRecords)
-        × ((n : ℕ) × (n ≤ maxRecords) × (n * 64 ≤ length (now work)) × (n ≤ length (now seen)) × Listed (now list) (length (now list)) n (now next)) ⌝ }
+    requires { ⌜ CommitAsked (now work) (now seen) (now next) (now list) (now records) (now masks) ⌝ }
     ensures { λ _. ⌜ Zero (now (next .exit)) × Frontier (now (records .exit)) (now (masks .exit)) (length (now (list .entry))) (now (next .entry))
         × ((n : ℕ) → Listed (now (list .entry)) (length (now (list .entry))) n (now (next .entry))
         → Committed (now (work .entry)) (now (seen .entry)) (now (next .entry)) mark n (now (work .exit)) (now (seen .exit))) ⌝ }
@@ -144,10 +135,7 @@ fn backward_by(
     work: &mut [u64],
     seen: &mut [u64],
 ) -> u64
-    requires { ⌜ (length (now arcs) ≤ maxArcs) × (ends .n ≤ maxRecords) × (length (now predecessors) ≡ 64)
-        × (length (now enter) ≡ 64) × (ends .from < ends .n) × (ends .to < ends .n) × (ends .n * 64 ≤ length (now work))
-        × (maxRecords + length (now arcs) ≤ length (now index)) × Indexed (arcTo (now arcs)) (length (now arcs)) (now index)
-        × (length (now seen) ≡ maxRecords) × Zero (now seen) ⌝ }
+    requires { ⌜ ByIndex arcTo (now arcs) (now index) × LevelsAsked (now predecessors) (now enter) ends (now work) (now seen) ⌝ }
     ensures { λ r. ⌜ ((g : Graph) (M : Automaton) (fs : List ℕ) → Setting g M fs (now (predecessors .entry)) (now (enter .entry)) (ends .accepting) (ends .n)
         (now (arcs .entry)) (length (now (arcs .entry))) → Sought g M (ends .from) (ends .to) (ends .n) (now (work .exit)) (now (seen .exit)) r) ⌝ }
 {
@@ -214,9 +202,7 @@ pub(crate) fn backward(
     work: &mut [u64],
     seen: &mut [u64],
 ) -> u64
-    requires { ⌜ (length (now arcs) ≤ maxArcs) × (ends .n ≤ maxRecords) × (length (now predecessors) ≡ 64)
-        × (length (now enter) ≡ 64) × (ends .from < ends .n) × (ends .to < ends .n) × (ends .n * 64 ≤ length (now work))
-        × (length (now seen) ≡ maxRecords) × Zero (now seen) ⌝ }
+    requires { ⌜ (length (now arcs) ≤ maxArcs) × LevelsAsked (now predecessors) (now enter) ends (now work) (now seen) ⌝ }
     ensures { λ r. ⌜ ((g : Graph) (M : Automaton) (fs : List ℕ) → Setting g M fs (now (predecessors .entry)) (now (enter .entry)) (ends .accepting) (ends .n)
         (now (arcs .entry)) (length (now (arcs .entry))) → Sought g M (ends .from) (ends .to) (ends .n) (now (work .exit)) (now (seen .exit)) r) ⌝ }
 {

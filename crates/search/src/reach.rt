@@ -8,19 +8,18 @@ use crate::states::spread;
 ghost use mathlib.Core.Path.{_≡_};
 ghost use mathlib.Core.List.{List};
 ghost use mathlib.Core.Bool.{true};
-ghost use Prim.Native.Nat.{ℕ, _+_, _<_, _≤_};
+ghost use Prim.Native.Nat.{ℕ};
 ghost use lib.ListN.{length};
-ghost use Rattle.book.specs.Causes.{maxRecords, maxLinks};
 ghost use Rattle.paths.specs.Expressions.{Expr};
 ghost use Rattle.paths.specs.Chains.{Graph};
 ghost use Rattle.paths.specs.ChainLaws.{Inside};
 ghost use Rattle.automaton.specs.Automata.{automaton};
 ghost use Rattle.automaton.specs.Masks.{Masked};
-ghost use Rattle.arcs.specs.Arcs.{maxArcs, arcFrom, Spans};
-ghost use Rattle.arcs.specs.Index.{Indexed};
+ghost use Rattle.arcs.specs.Arcs.{arcFrom, Spans};
 ghost use Rattle.search.specs.Levels.{Spread};
 ghost use Rattle.search.specs.Frontiers.{Listed};
 ghost use Rattle.search.specs.Reaching.{Expanding, Reached, Fewer, Ended};
+ghost use Rattle.search.specs.Room.{CrossAsked, ReachAsked, EndsAsked};
 
 // The states, not seen yet, to which an arc leads from the entry's record by one of its states, seen and pending now. How many records are queued now?
 fn out_of(
@@ -32,10 +31,7 @@ fn out_of(
     list: &mut [u16],
     entry: Entry,
 ) -> usize
-    requires { ⌜ (length (now arcs) ≤ maxArcs) × (maxRecords + length (now arcs) ≤ length (now index))
-        × (length (now enter) ≡ 64) × (length (now seen) ≡ maxRecords)
-        × (length (now pending) ≡ maxRecords) × (length (now list) ≡ maxRecords) × (entry .n ≤ maxRecords) × (entry .at < maxRecords)
-        × Indexed (arcFrom (now arcs)) (length (now arcs)) (now index) × Listed (now list) (entry .queued) (entry .n) (now pending) ⌝ }
+    requires { ⌜ CrossAsked arcFrom (now arcs) (now index) (now enter) (now seen) (now pending) (now list) entry ⌝ }
     ensures { λ c. ⌜ Listed (now (list .exit)) c (entry .n) (now (pending .exit))
         × Fewer (entry .n) (now (seen .entry)) (now (pending .entry)) (now (seen .exit)) (now (pending .exit))
         × ((fs : List ℕ) (x mask : ℕ) → Spread fs mask 0 (entry .states)
@@ -54,16 +50,13 @@ fn out_of(
         let old = seen[to];
         let states = entry.states & enter[arc / LETTER_UNIT % LETTERS] & !old;
         seen[to] = old | states;
-        queued = add_states(
-            pending,
-            list,
-            Entry {
-                at: to,
-                states,
-                n,
-                queued,
-            },
-        );
+        let added = Entry {
+            at: to,
+            states,
+            n,
+            queued,
+        };
+        queued = add_states(pending, list, added);
         cursor = arcs::next_arc(index, j);
     }
     queued
@@ -77,7 +70,7 @@ fn reach(
     n: usize,
     from: usize,
 ) -> [u64; book::MAX_RECORDS]
-    requires { ⌜ (length (now arcs) ≤ maxArcs) × (length (now follow) ≡ 64) × (length (now enter) ≡ 64) × (n ≤ maxRecords) × (from < n) ⌝ }
+    requires { ⌜ ReachAsked (now arcs) (now follow) (now enter) n from ⌝ }
     ensures { λ r. ⌜ Reached (now (follow .entry)) (now (enter .entry)) (now (arcs .entry)) (length (now (arcs .entry))) n from r ⌝ }
 {
     let mut index = [0u16; arcs::INDEX_WORDS];
@@ -98,21 +91,13 @@ fn reach(
         let at = list[last] as usize;
         let states = spread(follow, pending[at]);
         pending[at] = 0;
-        let entry = Entry {
+        let top = Entry {
             at,
             states,
             n,
             queued: last,
         };
-        count = out_of(
-            arcs,
-            &index,
-            enter,
-            &mut seen,
-            &mut pending,
-            &mut list,
-            entry,
-        );
+        count = out_of(arcs, &index, enter, &mut seen, &mut pending, &mut list, top);
     }
     seen
 }
@@ -125,7 +110,7 @@ pub fn reached(
     n: usize,
     from: usize,
 ) -> [u64; book::MAX_RECORDS]
-    requires { ⌜ (length (now links) ≤ maxLinks) × (length (now follow) ≡ 64) × (length (now enter) ≡ 64) × (n ≤ maxRecords) × (from < n) ⌝ }
+    requires { ⌜ EndsAsked (now links) (now follow) (now enter) n from ⌝ }
     ensures { λ r. ⌜ ((g : Graph) (e : Expr) (ps : List ℕ) (f : ℕ) → g .n ≡ n → Inside g → Spans (now (links .entry)) (length (now (links .entry))) g
         → length ps ≡ 64 → Masked (now (follow .entry)) ps (now (enter .entry)) f (automaton e) → g .inUse from ≡ true → Ended g e from f r) ⌝ }
 {

@@ -6,48 +6,31 @@ use crate::LETTERS;
 use crate::RECORD_UNIT;
 use crate::Route;
 use crate::states::spread;
-ghost use mathlib.Core.Path.{_≡_};
-ghost use Prim.Native.Nat.{_+_, _*_, _<_, _≤_};
+ghost use Prim.Native.Nat.{_*_, _≤_};
 ghost use lib.ListN.{length};
 ghost use Rattle.book.specs.Causes.{maxRecords};
 ghost use Rattle.arcs.specs.Arcs.{maxArcs, arcFrom};
-ghost use Rattle.arcs.specs.Index.{Indexed};
 ghost use Rattle.search.specs.Steps.{Kept, Chosen, Better, Walked};
+ghost use Rattle.search.specs.Room.{ByIndex, ChooseAsked, WalkAsked};
 
-// Those of the states whose number at a record is the distance, each looked at.
-fn kept_each(work: &[u64], n: usize, at: usize, states: u64, distance: u64) -> u64
-    requires { ⌜ (n * 64 ≤ length (now work)) × (n ≤ maxRecords) × (at < n) ⌝ }
-    ensures { λ r. ⌜ Kept (now (work .entry)) n at states distance 0 r ⌝ }
-{
-    let mut found = 0;
-    let mut left = states;
-    while left != 0 {
-        let q = u64::trailing_zeros(left) as usize;
-        if work[at * 64 + q] == distance {
-            found = found | (1 << q);
-        }
-        left = left & (left - 1);
-    }
-    found
-}
-
-// Those of the states whose number at a record below n is the distance: most often all of them, which then need not be gathered.
+// Those of the states whose number at a record below n is the distance: most often all of them, so the others are taken out.
 fn kept(work: &[u64], n: usize, at: usize, states: u64, distance: u64) -> u64
     requires { ⌜ (n * 64 ≤ length (now work)) × (n ≤ maxRecords) ⌝ }
-    ensures { λ r. ⌜ Kept (now (work .entry)) n at states distance 0 r ⌝ }
+    ensures { λ r. ⌜ Kept (now (work .entry)) n at states distance r ⌝ }
 {
     if n <= at {
         return 0;
     }
+    let mut found = states;
     let mut left = states;
     while left != 0 {
         let q = u64::trailing_zeros(left) as usize;
         if work[at * 64 + q] != distance {
-            return kept_each(work, n, at, states, distance);
+            found = found & !(1 << q);
         }
         left = left & (left - 1);
     }
-    states
+    found
 }
 
 // No step word: each is less.
@@ -75,9 +58,7 @@ fn choose(
     seen: &[u64],
     aim: Aim,
 ) -> Choice
-    requires { ⌜ (length (now arcs) ≤ maxArcs) × (maxRecords + length (now arcs) ≤ length (now index))
-        × (length (now enter) ≡ 64) × (aim .n * 64 ≤ length (now work))
-        × (length (now seen) ≡ maxRecords) × (aim .n ≤ maxRecords) × (aim .at < maxRecords) × Indexed (arcFrom (now arcs)) (length (now arcs)) (now index) ⌝ }
+    requires { ⌜ ChooseAsked (now arcs) (now index) (now enter) (now work) (now seen) aim ⌝ }
     ensures { λ r. ⌜ Chosen (now (arcs .entry)) (now (enter .entry)) (now (work .entry)) (now (seen .entry))
         (aim .n) (aim .at) (aim .follows) (aim .distance) (length (now (arcs .entry))) 0 (r .word) (r .states) ⌝ }
 {
@@ -118,9 +99,7 @@ fn forward_by(
     route: Route,
     out: &mut [u32],
 )
-    requires { ⌜ (length (now arcs) ≤ maxArcs) × (length (now follow) ≡ 64) × (length (now enter) ≡ 64) × (route .n * 64 ≤ length (now work))
-        × (length (now seen) ≡ maxRecords) × (route .n ≤ maxRecords) × (route .from < route .n) × (route .steps ≤ length (now out))
-        × (maxRecords + length (now arcs) ≤ length (now index)) × Indexed (arcFrom (now arcs)) (length (now arcs)) (now index) ⌝ }
+    requires { ⌜ ByIndex arcFrom (now arcs) (now index) × WalkAsked (now follow) (now enter) (now work) (now seen) route (now out) ⌝ }
     ensures { λ _. ⌜ Walked (now (follow .entry)) (now (enter .entry)) (now (work .entry)) (now (seen .entry)) (now (arcs .entry))
         (length (now (arcs .entry))) (route .n) (route .from) (route .steps) (now (out .entry)) (now (out .exit)) ⌝ }
 {
@@ -156,8 +135,7 @@ pub(crate) fn forward(
     route: Route,
     out: &mut [u32],
 )
-    requires { ⌜ (length (now arcs) ≤ maxArcs) × (length (now follow) ≡ 64) × (length (now enter) ≡ 64) × (route .n * 64 ≤ length (now work))
-        × (length (now seen) ≡ maxRecords) × (route .n ≤ maxRecords) × (route .from < route .n) × (route .steps ≤ length (now out)) ⌝ }
+    requires { ⌜ (length (now arcs) ≤ maxArcs) × WalkAsked (now follow) (now enter) (now work) (now seen) route (now out) ⌝ }
     ensures { λ _. ⌜ Walked (now (follow .entry)) (now (enter .entry)) (now (work .entry)) (now (seen .entry)) (now (arcs .entry))
         (length (now (arcs .entry))) (route .n) (route .from) (route .steps) (now (out .entry)) (now (out .exit)) ⌝ }
 {

@@ -6,14 +6,16 @@
 --                     question, and with none the records below n are marked that have a chain to some anchor
 --   Compares known core n v anchors work before after a
 --                     what `Support` `Supports` says, of a core and anchors that are not refused and with the work of a pair question alone
+--   Comparing marks links core anchors
+--                     what is asked is about records that there are: the core is one, and so are the anchors, which ascend
 -- Assumes nothing: these are definitions.
 use mathlib.Core.Path.{_≡_}
 use mathlib.Core.List.{List}
-use mathlib.Core.Bool.{Bool, false, not, _&&_}
-use Prim.Native.Nat.{ℕ, _<_}
+use mathlib.Core.Bool.{Bool, false, not, _&&_, true}
+use Prim.Native.Nat.{ℕ, _<_, _≤_}
 use lib.ListN.{length, getD}
-use lib.Dec.{ltb, eqb}
-use Rattle.book.specs.Causes.{Caused, firstNumber, maxRecords}
+use lib.Dec.{ltb, eqb, leb}
+use Rattle.book.specs.Causes.{Caused, firstNumber, maxRecords, maxLinks}
 use Rattle.book.specs.Book.{Book}
 use Rattle.paths.specs.Expressions.{Expr}
 use Rattle.paths.specs.Grammar.{Verdict, accepted}
@@ -22,7 +24,7 @@ use Rattle.paths.specs.Relations.{cells}
 use Rattle.answers.specs.Answers.{counted, Contained}
 use Rattle.answers.specs.declared.Counted.{Counted}
 use Rattle.paths.specs.Questions.{by-trees, pairsWork, pairsCauses, Tells}
-use Rattle.support.specs.Support.{reaches, supportOutcome}
+use Rattle.support.specs.Support.{reaches, supportOutcome, some, orderly}
 use Rattle.support.specs.SupportLaws.{supportWork}
 use Rattle.support.specs.declared.Marks.{Marks}
 
@@ -40,3 +42,11 @@ pub record Compares (known : Book → Type 0) (core n : ℕ) (v : Verdict) (anch
   pub contained : Contained (length before) (counted a) before after a
   pub book : (b : Book) → known b → n ≡ b .n → (whole : ℕ) → ltb whole (supportWork (b .n)) ≡ ltb work (pairsWork (b .n))
       → Tells (supportOutcome b core v anchors whole (length before)) before after a
+
+-- ---- what functions ask for
+pub record Comparing (marks links : List ℕ) (core : ℕ) (anchors : List ℕ) : Type 0 where
+  pub few : length marks ≤ maxRecords
+  pub few-links : length links ≤ maxLinks
+  pub core-in : core < length marks
+  pub anchors-in : some (leb (length marks)) anchors ≡ false
+  pub ascending : orderly 0 anchors ≡ true

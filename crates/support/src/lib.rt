@@ -1,7 +1,7 @@
 // Sole support: which records would lose every chain to the anchors if one core did. A product above the engine: the relation behind its questions is asked
 // of the register's marks and links, and of what is left of them without the core's links; its proofs rest on what is promised there.
 ghost use mathlib.Core.Path.{_≡_};
-ghost use mathlib.Core.Bool.{true, false, not, _&&_};
+ghost use mathlib.Core.Bool.{false, not, _&&_};
 ghost use Prim.Native.Nat.{ℕ, _<_, _≤_, min};
 ghost use lib.Dec.{leb};
 ghost use lib.ListN.{length, take, getD};
@@ -11,7 +11,7 @@ ghost use Rattle.paths.specs.Verdicts.{verdict};
 ghost use Rattle.answers.specs.Answers.{Whole};
 ghost use Rattle.rowpairs.specs.Evaluation.{Known, KnownOf, Held, relationIn};
 ghost use Rattle.support.specs.Support.{some, chosen, reaches, orderly, Supports};
-ghost use Rattle.support.specs.Inner.{lost as Lost, Marked, Compares};
+ghost use Rattle.support.specs.Inner.{lost as Lost, Marked, Compares, Comparing};
 use answers::Counted;
 use register::Register;
 
@@ -178,8 +178,7 @@ fn compared(
     work: &mut [u64],
     list: &mut [u32],
 ) -> Counted
-    requires { ⌜ (length (now marks) ≤ maxRecords) × (length (now links) ≤ maxLinks) × (core < length (now marks))
-        × (some (leb (length (now marks))) (now anchors) ≡ false) × (orderly 0 (now anchors) ≡ true) ⌝ }
+    requires { ⌜ Comparing (now marks) (now links) core (now anchors) ⌝ }
     ensures { λ a. ⌜ Compares (λ b. Known b (length (now (marks .entry))) (now (links .entry)) (now (marks .entry)))
         core (length (now (marks .entry))) (verdict (now (text .entry))) (now (anchors .entry))
         (length (now (work .entry))) (now (list .entry)) (now (list .exit)) a ⌝ }

@@ -14,13 +14,19 @@
 --   Alone b x        nothing but the part x waits
 --   inSense against e
 --                    the expression, or its inverse
+--   Merging k follow pred s
+--                        rows of both tables, and at least k parts on the stack s
+--   Tabled follow pred enter
+--                        a row of each table for every state or letter
+--   Unwritten follow pred enter
+--                        the tables are empty
 -- Assumes nothing: these are definitions.
 use mathlib.Core.Path.{_≡_}
 use mathlib.Core.List.{List, [], _∷_}
 use mathlib.Core.Bool.{Bool, true, false}
 use Prim.Native.Nat.{ℕ, suc, _+_, _<_, _≤_}
 use lib.Dec.{leb}
-use lib.ListN.{getD}
+use lib.ListN.{getD, length}
 use Rattle.book.specs.Basics.{bit}
 use Rattle.book.specs.Causes.{maxLetters}
 use Rattle.k2.specs.Bits.{digit}
@@ -130,3 +136,20 @@ Alone b x = (m : ℕ) × Holds b m (x ∷ [])
 abbrev pub inSense : Bool → Expr → Expr
 inSense false e = e
 inSense true e = inverse e
+
+-- ---- what functions ask for
+pub record Merging (k : ℕ) (follow pred : List ℕ) (s : Stack) : Type 0 where
+  pub follow-long : length follow ≡ 64
+  pub pred-long : length pred ≡ 64
+  pub some : k ≤ s .top
+  pub few : s .top ≤ places
+
+pub record Tabled (follow pred enter : List ℕ) : Type 0 where
+  pub follow-long : length follow ≡ 64
+  pub pred-long : length pred ≡ 64
+  pub enter-long : length enter ≡ 64
+
+pub record Unwritten (follow pred enter : List ℕ) : Type 0 where
+  pub no-follow : (p : ℕ) → getD follow p 0 ≡ 0
+  pub no-pred : (p : ℕ) → getD pred p 0 ≡ 0
+  pub no-enter : (p : ℕ) → getD enter p 0 ≡ 0

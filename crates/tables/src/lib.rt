@@ -3,7 +3,7 @@
 ghost use mathlib.Core.Path.{_≡_};
 ghost use mathlib.Core.List.{List, _∷_};
 ghost use Prim.Native.Nat.{ℕ, _+_, _<_, _≤_};
-ghost use lib.ListN.{length, getD};
+ghost use lib.ListN.{length};
 ghost use Rattle.book.specs.Causes.{maxLetters};
 ghost use Rattle.k2.specs.Bits.{digit};
 ghost use Rattle.paths.specs.Expressions.{Expr};
@@ -12,7 +12,7 @@ ghost use Rattle.reader.specs.Code.{code, value};
 ghost use Rattle.automaton.specs.Automata.{automaton};
 ghost use Rattle.automaton.specs.Masks.{Masked};
 ghost use Rattle.tables.specs.Rows.{Joined, sensed, Mixed, Turned};
-ghost use Rattle.tables.specs.Builds.{Part, parts, places, build, Holds, Next, Alone, inSense};
+ghost use Rattle.tables.specs.Builds.{Part, parts, places, build, Holds, Next, Alone, inSense, Merging, Tabled, Unwritten};
 use reader::Item;
 
 // A state's bit is in a word: the start, and as many positions as an expression may have letters.
@@ -138,7 +138,7 @@ fn either(s: Stack) -> Stack
 
 // A sequence: besides, the first of the right may follow the last of the left.
 fn followed(follow: &mut [u64], pred: &mut [u64], s: Stack) -> Stack
-    requires { ⌜ (length (now follow) ≡ 64) × (length (now pred) ≡ 64) × (2 ≤ s .top) × (s .top ≤ places) ⌝ }
+    requires { ⌜ Merging 2 (now follow) (now pred) s ⌝ }
     ensures { λ r. ⌜ ((es : List ℕ) (m : ℕ) (x y : Part) (st : List Part)
         → Holds (build (now (follow .entry)) (now (pred .entry)) es s) m (y ∷ x ∷ st)
         → Holds (build (now (follow .exit)) (now (pred .exit)) es r) m (parts .followed x y ∷ st)) ⌝ }
@@ -160,7 +160,7 @@ fn followed(follow: &mut [u64], pred: &mut [u64], s: Stack) -> Stack
 
 // One or more: the first may follow the last.
 fn repeated(follow: &mut [u64], pred: &mut [u64], s: Stack)
-    requires { ⌜ (length (now follow) ≡ 64) × (length (now pred) ≡ 64) × (1 ≤ s .top) × (s .top ≤ places) ⌝ }
+    requires { ⌜ Merging 1 (now follow) (now pred) s ⌝ }
     ensures { λ _. ⌜ ((es : List ℕ) (m : ℕ) (x : Part) (st : List Part)
         → Holds (build (now (follow .entry)) (now (pred .entry)) es s) m (x ∷ st)
         → Holds (build (now (follow .exit)) (now (pred .exit)) es s) m (parts .repeated x ∷ st)) ⌝ }
@@ -186,7 +186,7 @@ fn maybe(s: Stack) -> Stack
 
 // Inverted: read backwards, each letter in its other sense.
 fn inverted(follow: &mut [u64], pred: &mut [u64], enter: &mut [u64], s: Stack) -> Stack
-    requires { ⌜ (length (now follow) ≡ 64) × (length (now pred) ≡ 64) × (length (now enter) ≡ 64) × (1 ≤ s .top) × (s .top ≤ places) ⌝ }
+    requires { ⌜ Merging 1 (now follow) (now pred) s × (length (now enter) ≡ 64) ⌝ }
     ensures { λ r. ⌜ ((m : ℕ) (x : Part) (st : List Part)
         → Holds (build (now (follow .entry)) (now (pred .entry)) (now (enter .entry)) s) m (x ∷ st)
         → Holds (build (now (follow .exit)) (now (pred .exit)) (now (enter .exit)) r) m (parts .inverted x ∷ st)) ⌝ }
@@ -204,8 +204,7 @@ fn inverted(follow: &mut [u64], pred: &mut [u64], enter: &mut [u64], s: Stack) -
 
 // One number of the code.
 fn step(follow: &mut [u64], pred: &mut [u64], enter: &mut [u64], s: Stack, i: u64) -> Stack
-    requires { ⌜ (length (now follow) ≡ 64) × (length (now pred) ≡ 64) × (length (now enter) ≡ 64)
-        × ((c : List ℕ) × (x : Part) × Next (build (now follow) (now pred) (now enter) s) (i ∷ c) x) ⌝ }
+    requires { ⌜ Tabled (now follow) (now pred) (now enter) × ((c : List ℕ) × (x : Part) × Next (build (now follow) (now pred) (now enter) s) (i ∷ c) x) ⌝ }
     ensures { λ r. ⌜ ((c : List ℕ) (x : Part) → Next (build (now (follow .entry)) (now (pred .entry)) (now (enter .entry)) s) (i ∷ c) x
         → Next (build (now (follow .exit)) (now (pred .exit)) (now (enter .exit)) r) c x) ⌝ }
 {
@@ -242,8 +241,7 @@ fn built(
     pred: &mut [u64],
     enter: &mut [u64],
 ) -> Stack
-    requires { ⌜ (length (now follow) ≡ 64) × (length (now pred) ≡ 64) × (length (now enter) ≡ 64) × ((p : ℕ) → getD (now follow) p 0 ≡ 0)
-        × ((p : ℕ) → getD (now pred) p 0 ≡ 0) × ((p : ℕ) → getD (now enter) p 0 ≡ 0)
+    requires { ⌜ Tabled (now follow) (now pred) (now enter) × Unwritten (now follow) (now pred) (now enter)
         × ((text : List ℕ) × (e : Expr) × InLimits text e × (now numbers ≡ code e)) ⌝ }
     ensures { λ r. ⌜ ((text : List ℕ) (e : Expr) → InLimits text e → now (numbers .entry) ≡ code e
         → Alone (build (now (follow .exit)) (now (pred .exit)) (now (enter .exit)) r) (value parts (inSense against e))) ⌝ }

@@ -22,11 +22,13 @@
 --                         were
 --   Operated t n ws used rows before after r
 --                         what `operate` promises: with room, the first r words of the work are the outcome's tree; without, r is 0 and the work is as it was
+--   Loading n operand at work rows
+--                        the operand of n records stands in work from `at` on, and rows take it
 -- Assumes nothing: these are definitions.
 use mathlib.Core.Path.{_≡_}
 use mathlib.Core.Bool.{Bool, true, false}
 use mathlib.Core.List.{List, map}
-use Prim.Native.Nat.{ℕ, _*_, _≤_}
+use Prim.Native.Nat.{ℕ, _*_, _≤_, _+_}
 use lib.ListN.{length, take, drop}
 use Rattle.book.specs.Causes.{maxRecords}
 use Rattle.k2.specs.Sizes.{rowsWords}
@@ -110,3 +112,10 @@ pub record Operated (t : Term) (n : ℕ) (ws used : List ℕ) (rows : ℕ) (befo
   pub tree : Room n t (length before) (length used) rows
       → (a b : Cells) → Lent t n ws (bitAt used) before a b → TreeAt n (termSet t n ws (bitAt used) a b) after r
   pub left : (Room n t (length before) (length used) rows → ⊥) → (after ≡ before) × (r ≡ 0)
+
+-- ---- what functions ask for
+pub record Loading (n : ℕ) (operand : Operand) (at : ℕ) (work rows : List ℕ) : Type 0 where
+  pub few : n ≤ maxRecords
+  pub small : operand .size ≤ treeUnit n
+  pub inside : at + operand .size ≤ length work
+  pub rows-long : length rows ≡ rowsWords

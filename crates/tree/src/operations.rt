@@ -3,17 +3,16 @@
 use packing::Sense;
 ghost use mathlib.Core.Path.{_≡_};
 ghost use mathlib.Core.Bool.{true};
-ghost use Prim.Native.Nat.{ℕ, _+_, _≤_};
+ghost use Prim.Native.Nat.{ℕ};
 ghost use lib.ListN.{length, take, drop};
-ghost use Rattle.book.specs.Causes.{maxRecords};
 ghost use Rattle.k2.specs.Sizes.{rowsWords};
 ghost use Rattle.k2.specs.Bits.{bitAt};
 ghost use Rattle.k2.specs.PairSets.{Cells, IsSet, union};
-ghost use Rattle.k2.specs.Trees.{treeWords, treeUnit};
+ghost use Rattle.k2.specs.Trees.{treeWords};
 ghost use Rattle.rows.specs.Rows.{flat};
 ghost use Rattle.rows.specs.RowSets.{crossedWords};
 ghost use Rattle.packing.specs.Senses.{sensed, opposite};
-ghost use Rattle.tree.specs.Inner.{nothing, flipped, valued, LinksBelow, Apart, outcome, Roomy, Room, InRows, Operated};
+ghost use Rattle.tree.specs.Inner.{nothing, flipped, valued, LinksBelow, Apart, outcome, Roomy, Room, InRows, Operated, Loading};
 
 // What is done with the sets of two operands; the last three take the union of both, so that an operation on one operand has none as its first.
 pub enum Operation {
@@ -97,7 +96,7 @@ fn put_links(operand: Operand, links: &[u32], rows: &mut [u64])
 
 // The tree of an operand, at word `at`, put into rows, read with its sense.
 fn load_tree(work: &[u64], at: usize, operand: Operand, n: usize, rows: &mut [u64])
-    requires { ⌜ (n ≤ maxRecords) × (operand .size ≤ treeUnit n) × (at + operand .size ≤ length (now work)) × (length (now rows) ≡ rowsWords) ⌝ }
+    requires { ⌜ Loading n operand at (now work) (now rows) ⌝ }
     ensures { λ _. ⌜ ((a x : Cells) → IsSet n a → take (operand .size) (drop at (now (work .entry))) ≡ treeWords n a → bitAt (now (rows .entry)) ≡ flat x
         → bitAt (now (rows .exit)) ≡ flat (union x (sensed (operand .sense) a))) ⌝ }
 {
@@ -111,7 +110,7 @@ fn load_tree(work: &[u64], at: usize, operand: Operand, n: usize, rows: &mut [u6
 
 // An operand, whose tree is at word `at`, put into rows.
 fn load(work: &[u64], at: usize, operand: Operand, n: usize, links: &[u32], rows: &mut [u64])
-    requires { ⌜ (n ≤ maxRecords) × (operand .size ≤ treeUnit n) × (at + operand .size ≤ length (now work)) × (length (now rows) ≡ rowsWords) ⌝ }
+    requires { ⌜ Loading n operand at (now work) (now rows) ⌝ }
     ensures { λ _. ⌜ ((a x : Cells) → IsSet n a → take (operand .size) (drop at (now (work .entry))) ≡ treeWords n a → bitAt (now (rows .entry)) ≡ flat x
         → bitAt (now (rows .exit)) ≡ flat (union x (valued (now (links .entry)) operand a))) ⌝ }
 {

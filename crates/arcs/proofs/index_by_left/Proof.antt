@@ -4,15 +4,19 @@ use Rattle.arcs.proofs.IndexingLaws.{key-from}
 use Rattle.arcs.proofs.index_by_left.Statement.{statement}
 use Rattle.arcs.proofs.index_by_left.Tie as tie
 
+-- The places that the needs come back to.
+abbrev start-of-index-of : tie.After-index-of → tie.Start
+start-of-index-of p = p .before .before .before .before
+
 index-of-requires : tie.Need-index-of-requires
-index-of-requires c κs = let p = c .before .before .before .pre in (p .0, omega arith, p .1, p .2)
+index-of-requires c κs = let p = c .before .before .before .pre in record { few = p .0; part = omega arith; room = p .1; clear = p .2 }
 
 same-length : tie.Need-same-length
 same-length c = c .before .before .index-of .kept .1 .1 .0
 
 returns : tie.Need-returns
 returns c =
-    let start = c .before .before .before .before .before .before in
+    let start = start-of-index-of (c .before .before) in
     rw (key-from (start .args .arcs .now)) at (c .before .before .index-of .ensures)
 
 pub index-by-left-spec : {M : Type 1} → statement M

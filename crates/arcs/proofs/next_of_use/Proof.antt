@@ -15,6 +15,13 @@ Inv-loop links enter at i₀ i = (at ≤ i) × (i ≤ length links) × NoUse lin
 abbrev μ-loop : tie.MeasureT-loop
 μ-loop links enter at i₀ i = length links - i
 
+-- The places that the needs come back to.
+abbrev loop-of-then2 : tie.Then2 Inv-loop μ-loop → tie.At-loop Inv-loop μ-loop
+loop-of-then2 p = let at-in-loop = p .before .before .before .before .before in at-in-loop .before
+
+abbrev loop-of-else2 : tie.Else2 Inv-loop μ-loop → tie.At-loop Inv-loop μ-loop
+loop-of-else2 p = let at-in-loop = p .before .before .before .before .before in at-in-loop .before
+
 loop-holds : tie.Need-loop-holds Inv-loop μ-loop
 loop-holds c = (omega arith, c .pre .0, no-use-none _ _ _)
 
@@ -22,11 +29,11 @@ returns : tie.Need-returns Inv-loop μ-loop
 returns c = c .before .before .before .before .loop .inv
 
 returns-2 : tie.Need-returns-2 Inv-loop μ-loop
-returns-2 c = c .before .before .before .before .before .before .loop .inv
+returns-2 c = loop-of-then2 c .loop .inv
 
 loop-again : tie.Need-loop-again Inv-loop μ-loop
 loop-again c =
-    let at-loop = c .before .before .before .before .before .before in
+    let at-loop = loop-of-else2 c in
     let v = at-loop .loop .inv in (omega arith, omega arith, no-use-more (v .2) (c .before .before .if1 .left) (c .if2 .left))
 
 returns-3 : tie.Need-returns-3 Inv-loop μ-loop

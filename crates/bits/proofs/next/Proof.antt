@@ -1,7 +1,8 @@
 -- `next` looks at what is left of the first word, and then at whole words. The loop's invariant: no bit from `lo` to word q. The measure is
 -- the words left. It rests on `next-here`: the trailing zeros of a word tell its lowest digit that is set. Assumes nothing.
+use mathlib.Core.List.{List}
 use mathlib.Core.Path.{_≡_, refl}
-use Prim.Native.Nat.{_≤_, _+_, _-_, _*_, _/_, _%_}
+use Prim.Native.Nat.{ℕ, _≤_, _+_, _-_, _*_, _/_, _%_}
 use native.Mathlib.Omega.{arith}
 use Rattle.k2.specs.Bits.{bitAt}
 use Rattle.bits.specs.BitSets.{Gap}
@@ -10,8 +11,15 @@ use Rattle.bits.specs.ScanLaws.{next-here, next-word, next-after, next-n
 use Rattle.bits.proofs.next.Statement.{statement}
 use Rattle.bits.proofs.next.Tie as tie
 
+-- what holds whenever the loop is at its head
+record Loop (words : List ℕ) (lo end past q : ℕ) : Type 0 where
+  past-is : past ≡ end / 64
+  inside : q ≤ past + 1
+  low-end : lo ≤ q * 64
+  gap : Gap (bitAt words) lo (q * 64)
+
 abbrev Inv-loop : tie.InvT-loop
-Inv-loop words lo end q₀ rest past q = (past ≡ end / 64) × (q ≤ past + 1) × (lo ≤ q * 64) × Gap (bitAt words) lo (q * 64)
+Inv-loop words lo end q₀ rest past q = Loop words lo end past q
 
 abbrev μ-loop : tie.MeasureT-loop
 μ-loop words lo end q₀ rest past q = past + 1 - q
@@ -47,20 +55,25 @@ returns-2 c =
 loop-holds : tie.Need-loop-holds Inv-loop μ-loop
 loop-holds c =
     let a = c .before .before .before .before .args in
-    (refl, omega arith, omega arith, gap-rest (a .words .now) (a .lo / 64) (a .lo % 64) (a .lo) (omega arith) (omega arith) (c .if2 .left))
+    record {
+      past-is = refl;
+      inside = omega arith;
+      low-end = omega arith;
+      gap = gap-rest (a .words .now) (a .lo / 64) (a .lo % 64) (a .lo) (omega arith) (omega arith) (c .if2 .left);
+    }
 
 returns-3 : tie.Need-returns-3 Inv-loop μ-loop
 returns-3 c =
     let a = start-of-loop (c .before .before) .args in
     let l = c .before .before .loop in
     next-none _ (a .lo) (a .end) (a .end) (omega arith) (omega arith)
-    (gap-join _ (a .lo) (l .q * 64) (a .end) (l .inv .3) (gap-past (a .words .now) (l .q * 64) (a .end) (omega arith)))
+    (gap-join _ (a .lo) (l .q * 64) (a .end) (l .inv .gap) (gap-past (a .words .now) (l .q * 64) (a .end) (omega arith)))
 
 returns-4 : tie.Need-returns-4 Inv-loop μ-loop
 returns-4 c =
     let a = start-of-lowest-set2 c .args in
     let l = loop-of-lowest-set2 c .loop in
-    next-after _ (a .lo) (l .q * 64) (a .end) _ (l .inv .2) (l .inv .3)
+    next-after _ (a .lo) (l .q * 64) (a .end) _ (l .inv .low-end) (l .inv .gap)
     (next-word (a .words .now) (l .q) (a .end) _ (c .before .before .before .shared-slice-known3 .given (l .q) .fits)
     (omega (arith, c .before .before .if4 .taken)) (omega arith) (c .lowest-set2 .ensures))
 
@@ -69,13 +82,18 @@ loop-again c =
     let at-loop = c .before .before .before .before in
     let a = start-of-loop at-loop .args in
     let l = at-loop .loop in
-    (refl, omega arith, omega arith, gap-join _ (a .lo) (l .q * 64) _ (l .inv .3) (gap-word (a .words .now) (l .q) (c .if4 .left)))
+    record {
+      past-is = refl;
+      inside = omega arith;
+      low-end = omega arith;
+      gap = gap-join _ (a .lo) (l .q * 64) _ (l .inv .gap) (gap-word (a .words .now) (l .q) (c .if4 .left));
+    }
 
 returns-5 : tie.Need-returns-5 Inv-loop μ-loop
 returns-5 c =
     let a = start-of-loop-end c .args in
     let l = c .before .loop in
-    next-none _ (a .lo) (l .q * 64) (a .end) (omega arith) (omega arith) (l .inv .3)
+    next-none _ (a .lo) (l .q * 64) (a .end) (omega arith) (omega arith) (l .inv .gap)
 
 pub next-spec : {M : Type 1} → statement M
 next-spec =

@@ -7,10 +7,14 @@ use Rattle.register.specs.Reads.{read-of}
 use Rattle.chains.proofs.chain.Statement.{statement}
 use Rattle.chains.proofs.chain.Tie as tie
 
+-- The places that the needs come back to.
+abbrev links-of-chain-over : tie.After-chain-over → tie.After-links
+links-of-chain-over p = let at-chain-over-arg = p .before .before .before .before .before in at-chain-over-arg .before .before .before
+
 returns : tie.Need-returns
 returns c =
     let after-chain-over = c .before .before .before .before in
-    let after-links = after-chain-over .before .before .before .before .before .before .before .before in
+    let after-links = links-of-chain-over after-chain-over in
     let Z = after-links .before .before .size in
     let L = after-links .links in
     let n : Z .result - 0 ≡ Z .result = omega arith in

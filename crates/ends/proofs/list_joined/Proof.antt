@@ -7,9 +7,13 @@ use Rattle.register.specs.Reads.{read-of}
 use Rattle.ends.proofs.list_joined.Statement.{statement}
 use Rattle.ends.proofs.list_joined.Tie as tie
 
+-- The places that the needs come back to.
+abbrev links-of-joined-over : tie.After-joined-over → tie.After-links
+links-of-joined-over p = let at-marks2 = p .before .before .before .before .before in at-marks2 .before .before
+
 returns : tie.Need-returns
 returns c =
-    let after-links = c .before .before .before .before .before .before .before .before .before in
+    let after-links = links-of-joined-over (c .before .before) in
     let Z = after-links .before .before .size in
     let L = after-links .links in
     let n : Z .result - 0 ≡ Z .result = omega arith in

@@ -16,16 +16,23 @@ use Rattle.ends.proofs.AskLaws.{ends-none, ends-seen}
 use Rattle.ends.proofs.sought.Statement.{statement}
 use Rattle.ends.proofs.sought.Tie as tie
 
+-- The places that the needs come back to.
+abbrev start-of-then1 : tie.Then1 → tie.Start
+start-of-then1 p = let at-shared-slice-known = p .before .before .before .before .before in at-shared-slice-known .before
+
+abbrev start-of-tables-of : tie.After-tables-of → tie.Start
+start-of-tables-of p = let at-shared-slice-known2 = p .before .before .before .before .before in at-shared-slice-known2 .before .before
+
 returns : tie.Need-returns
 returns c =
-    let start = c .before .before .before .before .before .before in
+    let start = start-of-then1 c in
     let a = start .args in
     let p = start .pre in (
       [],
       refl,
       omega arith,
       shown-none _,
-      λ text e L q self b R T. ends-none (a .against) R e (a .x) (out-of-use R T (a .x) (p .2) (c .if1 .taken)),
+      λ text e L q self b R T. ends-none (a .against) R e (a .x) (out-of-use R T (a .x) (p .inside) (c .if1 .taken)),
     )
 
 -- the automaton's tables have a row for each of 64 states
@@ -36,7 +43,7 @@ returns-2 : tie.Need-returns-2
 returns-2 c =
     let after-reached = c .before .before .before .before .before in
     let after-tables-of = after-reached .before .before .before .before .before in
-    let start = after-tables-of .before .before .before .before .before .before .before in
+    let start = start-of-tables-of after-tables-of in
     let a = start .args in
     let p = start .pre in
     let T = after-tables-of .tables-of in
@@ -45,12 +52,12 @@ returns-2 c =
     let long = wide after-tables-of in (
       places (meets (S .result) (T .result .accepting)) (length (a .marks .now)),
       f .0,
-      omega (arith, f .0, length-places (meets (S .result) (T .result .accepting)) (length (a .marks .now)), p .0),
+      omega (arith, f .0, length-places (meets (S .result) (T .result .accepting)) (length (a .marks .now)), p .few),
       f .1,
       λ text e L q self b R N.
           ends-seen (a .against) (asked b) (inside R) e (asked-size R N)
           (S .ensures (asked b) (inSense (a .against) e) (T .result .pred) (T .result .accepting) (asked-size R N) (inside R)
-          (spans R N (p .0)) long (T .ensures text e L q) (used R N (a .x) (p .2) (after-tables-of .before .if1 .left))),
+          (spans R N (p .few)) long (T .ensures text e L q) (used R N (a .x) (p .inside) (after-tables-of .before .if1 .left))),
     )
 
 pub sought-spec : {M : Type 1} → statement M

@@ -132,13 +132,14 @@ write-numbers-requires c κs =
     let after-visit-all = after-marks .before .before .before in
     let after-size = size-of-visit-all after-visit-all in
     let v = after-visit-all .visit-all in
-    let k : length (v .last .1 .1 .0) ≡ 1024 = search needs in (
-      after-size .size .ensures .small,
-      after-marks .marks .ensures .long,
-      k,
-      v .ensures .0 (after-marks .before .if3 .taken) .1,
-      omega (arith, else4 .if4 .left, else4 .before .count-in-use .ensures (v .last .1 .1 .0)),
-    )
+    let k : length (v .last .1 .1 .0) ≡ 1024 = search needs in
+    record {
+      few = after-size .size .ensures .small;
+      marks-long = after-marks .marks .ensures .long;
+      depths-long = k;
+      known = v .ensures .0 (after-marks .before .if3 .taken) .1;
+      fits = omega (arith, else4 .if4 .left, else4 .before .count-in-use .ensures (v .last .1 .1 .0));
+    }
 
 returns-4 : tie.Need-returns-4
 unfolding written

@@ -34,20 +34,25 @@ turn-requires c κs =
 
 returns : tie.Need-returns Inv-loop μ-loop
 returns c =
-    let l = c .before .before .before .before .before .before .before .before .loop in
+    let earlier = c .before .before .before .before .before in
+    let l = earlier .before .before .before .loop in
     let t = c .before .before .before .before .turn in
     sends-fail (l .lines) (t .result .written) _ _ _ (omega arith) (l .inv .sends) (t .ensures)
 
 returns-2 : tie.Need-returns-2 Inv-loop μ-loop
 returns-2 c =
-    let l = c .before .before .before .before .before .before .before .before .before .before .loop in
-    let t = c .before .before .before .before .before .before .turn in
+    let earlier = c .before .before .before .before .before in
+    let l = earlier .before .before .before .before .before .loop in
+    let earlier′ = c .before .before .before .before .before in
+    let t = earlier′ .before .turn in
     sends-stop (l .lines) (t .result .written) _ _ _ (omega arith) (l .inv .sends) (t .ensures)
 
 loop-again : tie.Need-loop-again Inv-loop μ-loop
 loop-again c =
-    let l = c .before .before .before .before .before .before .before .before .before .before .loop in
-    let t = c .before .before .before .before .before .before .turn in
+    let earlier = c .before .before .before .before .before in
+    let l = earlier .before .before .before .before .before .loop in
+    let earlier′ = c .before .before .before .before .before in
+    let t = earlier′ .before .turn in
     record {
       sends = sends-more (l .lines) (t .result .written) _ _ _ (omega arith) (l .inv .sends) (t .ensures);
       line-long = t .kept .0 ∙ l .inv .line-long;

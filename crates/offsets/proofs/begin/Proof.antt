@@ -10,6 +10,10 @@ use Rattle.offsets.proofs.PlanLaws.{plan-refused, plan-judged, base-in,
 use Rattle.offsets.proofs.begin.Statement.{statement}
 use Rattle.offsets.proofs.begin.Tie as tie
 
+-- The places that the needs come back to.
+abbrev start-of-sooner : tie.After-sooner → tie.Start
+start-of-sooner p = p .before .before .before .before
+
 -- the number of the base and that of the ties, the sooner of the two
 first-is : (c : tie.After-sooner)
     → let start = c .before .before .before .before in
@@ -56,7 +60,7 @@ returns-3 c =
 
 slice-aggregate-fill : tie.Need-slice-aggregate-fill
 slice-aggregate-fill c =
-    let s = c .before .before .before .before .before .before .before .before in
+    let s = start-of-sooner (c .before .before .before .before) in
     let h : s .args .n * 3 ≤ length (s .args .work .now) = omega (arith, c .before .if3 .left) in sym (length-take-le (s .args .n * 3) (s .args .work .now) h)
 
 fill-requires : tie.Need-fill-requires

@@ -7,6 +7,10 @@ use Rattle.offsets.proofs.LowerLaws.{all-three}
 use Rattle.offsets.proofs.relax.Statement.{statement}
 use Rattle.offsets.proofs.relax.Tie as tie
 
+-- The places that the needs come back to.
+abbrev start-of-third2 : tie.After-third2 → tie.Start
+start-of-third2 p = p .before .before .before .before .before
+
 cast-up : tie.Need-cast-up
 cast-up c = wide-fits (c .args .most) (c .fits .most)
 
@@ -40,7 +44,7 @@ third-requires-2 c κs =
 
 third-requires-3 : tie.Need-third-requires-3
 third-requires-3 c κs =
-    let a = c .before .before .before .before .before .before .before in
+    let a = start-of-third2 (c .before .before) in
     record {
       place = omega arith;
       first = omega arith;

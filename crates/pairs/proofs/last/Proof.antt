@@ -20,22 +20,22 @@ take-off-of-outcome-rows p = p .before .before .before .before
 takes : (c : tie.After-take-off)
     → let start = c .before .before .before .before .before in
     Takes (treeUnit (start .args .n)) (start .args .item) (start .args .stack) (c .take-off .result)
-takes c = c .take-off .ensures _ (c .before .before .before .before .before .pre .5)
+takes c = c .take-off .ensures _ (c .before .before .before .before .before .pre .2)
 
 early : (c : tie.After-take-off) → c .take-off .result .below ≤ 18
-early c = takes-early (c .before .before .before .before .before .pre .4) (takes c)
+early c = takes-early (c .before .before .before .before .before .pre .1) (takes c)
 
 starts : (c : tie.After-take-off) → c .take-off .result .start ≤ 18 * treeUnit (c .before .before .before .before .before .args .n)
 starts c = starts-early (takes c .totals) (early c)
 
 mul-outcome-rows : tie.Need-mul-outcome-rows
-mul-outcome-rows c = omega (arith, starts (c .before), start-of-take-off (c .before) .pre .1)
+mul-outcome-rows c = omega (arith, starts (c .before), start-of-take-off (c .before) .pre .0 .room)
 
 sub-outcome-rows : tie.Need-sub-outcome-rows
-sub-outcome-rows c = omega (arith, starts (c .before), start-of-take-off (c .before) .pre .1)
+sub-outcome-rows c = omega (arith, starts (c .before), start-of-take-off (c .before) .pre .0 .room)
 
 part-outcome-rows-start : tie.Need-part-outcome-rows-start
-part-outcome-rows-start c = omega (arith, starts (c .before), start-of-take-off (c .before) .pre .1)
+part-outcome-rows-start c = omega (arith, starts (c .before), start-of-take-off (c .before) .pre .0 .room)
 
 returns : tie.Need-returns
 returns c =
@@ -45,7 +45,7 @@ returns c =
     let P = start .pre in
     let I = c .before .before .outcome-rows in
     ends-term (a .n) (a .item) (a .links .now) (a .used .now) (a .work .now) (a .rows .now)
-    (I .last .1 .1 .1 .1 .1 .0) (I .result) (a .stack) (P .0) (P .1) (P .2) (P .3)
+    (I .last .1 .1 .1 .1 .1 .0) (I .result) (a .stack) (P .0 .few) (P .0 .room) (P .0 .used-long) (P .0 .rows-long)
     (after-take-off .take-off .result) (takes after-take-off) (early after-take-off) (I .ensures)
 
 pub last-spec : {M : Type 1} → statement M

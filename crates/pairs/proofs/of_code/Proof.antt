@@ -66,6 +66,9 @@ slice-aggregate-run-4 c =
     let start = start-of-marks earlier in
     sym (length-take-le _ _ (start .pre .0))
 
+run-requires : tie.Need-run-requires
+run-requires c κs = (record { few = search needs; room = search needs; used-long = search needs; rows-long = search needs }, search needs)
+
 returns-2 : tie.Need-returns-2
 returns-2 c =
     let after-count-pairs = c .before .before .before .before .before in
@@ -94,6 +97,7 @@ of-code-spec =
     slice-aggregate-run
     (λ c. search needs) (λ c. search needs) (λ c. search needs)
     slice-aggregate-run-4
-    (λ c κs. search needs) (λ c. search needs) (λ c κs. search needs) (λ c. search needs) (λ c κs. search needs) (λ c. search needs)
+    run-requires
+    (λ c. search needs) (λ c κs. search needs) (λ c. search needs) (λ c κs. search needs) (λ c. search needs)
     (λ c. search needs)
     returns-2)

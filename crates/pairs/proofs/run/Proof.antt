@@ -17,7 +17,7 @@ evaluate-of-item-of p = let at-work = p .before .before .before .before .before 
 
 -- the code has a number
 some : (c : tie.Start) → 1 ≤ length (c .args .code .now)
-some c = coded-some (c .args .n) (c .args .links .now) (c .args .used .now) _ (c .pre .4 .2)
+some c = coded-some (c .args .n) (c .args .links .now) (c .args .used .now) _ (c .pre .1 .2)
 
 sub-item-of : tie.Need-sub-item-of
 sub-item-of c = some (start-of-evaluate (c .before .before .before .before))
@@ -39,7 +39,7 @@ last-requires c κs =
     let r : length (E .last .1 .1 .1 .1 .0) ≡ length (a .rows .now) = E .kept .1 .1 .1 .1 .0 in
     let h = some start in
     let q = going-ready (a .n) (a .links .now) (a .used .now) _ _ (omega arith) (E .ensures) (sym (c .before .before .item-of .ensures)) in
-    (P .0, omega (arith, P .1), P .2, r ∙ P .3, q .0, q .1)
+    (record { few = P .0 .few; room = omega (arith, P .0 .room); used-long = P .0 .used-long; rows-long = r ∙ P .0 .rows-long }, q .0, q .1)
 
 returns : tie.Need-returns
 returns c =

@@ -32,10 +32,10 @@ start-of-inverse p = start-of-match-keys2 (p .before .before)
 room : (c : tie.After-item) → (start-of-match-keys1 (c .before)) .args .stack .count < 19
 room c =
     let start = start-of-match-keys1 (c .before) in
-    let o : operands (start .args .item) ≡ 0 = ap operands (c .item .given .1) in let r = start .pre .4 .room in omega arith
+    let o : operands (start .args .item) ≡ 0 = ap operands (c .item .given .1) in let r = start .pre .1 .room in omega arith
 
 push-requires : tie.Need-push-requires
-push-requires c κs = (room (c .before .before), start-of-letters c .pre .5 .slots)
+push-requires c κs = (room (c .before .before), start-of-letters c .pre .2 .slots)
 
 -- `^` has an operand
 some : (c : tie.After-enum-told)
@@ -44,8 +44,8 @@ some : (c : tie.After-enum-told)
 some c =
     let start = start-of-match-keys2 (c .before) in
     let o : operands (start .args .item) ≡ 1 = ap operands (c .enum-told .given .1) in
-    let f = start .pre .4 .found in
-    (omega arith, start .pre .4 .few, start .pre .5 .slots)
+    let f = start .pre .1 .found in
+    (omega arith, start .pre .1 .few, start .pre .2 .slots)
 
 inverse-requires : tie.Need-inverse-requires
 inverse-requires c κs = some c
@@ -60,7 +60,7 @@ returns c =
     (sym (after-item .item .given .1))
     (subst (λ (S : Stack). Goes (a .n) (a .links .now) (a .used .now) (Letters (q .0) (q .1 .0)) (a .work .now) (a .work .now) (a .stack) S)
     (sym (c .push .ensures ∙ ap (λ (o : Operand). pushed o (a .stack .count) (a .stack .end) (a .stack)) (c .before .letters .ensures)))
-    (goes-letters (a .n) (q .0) (q .1 .0) (a .links .now) (a .used .now) (a .work .now) (a .stack) (start .pre .5 .slots) (room after-item)))
+    (goes-letters (a .n) (q .0) (q .1 .0) (a .links .now) (a .used .now) (a .work .now) (a .stack) (start .pre .2 .slots) (room after-item)))
 
 returns-2 : tie.Need-returns-2
 returns-2 c =

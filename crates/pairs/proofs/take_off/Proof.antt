@@ -17,7 +17,7 @@ inverts : (c : tie.After-enum-told) → 1 ≤ operands (c .before .before .args 
 inverts c = let o : operands (c .before .before .args .item) ≡ 1 = ap operands (c .enum-told .given .1) in omega arith
 
 inverse-requires : tie.Need-inverse-requires
-inverse-requires c κs = let h = has-one (c .before .before .pre .1 .1) (c .before .before .pre .0) (inverts c) in (h .0, h .1, h .2)
+inverse-requires c κs = let h = has-one (c .before .before .pre .1 .1) (c .before .before .pre .0) (inverts c) in (h .some, h .few, h .slots)
 
 on-one-requires : tie.Need-on-one-requires
 on-one-requires c κs =

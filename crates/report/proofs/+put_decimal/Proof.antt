@@ -65,7 +65,8 @@ add-put-byte-2 t c = omega arith
 
 put-byte-requires-2 : (t : ℕ) → put-decimal-lts.Need-put-byte-requires-2 (calls t) (at-measure t) put-decimal.Post
 put-byte-requires-2 t c κs =
-    let s = c .before .before .before .before .before .before .before in
+    let earlier = c .before .before .before .before .before in
+    let s = earlier .before .before in
     let p = c .before .before .before .put-decimal in
     let less = length-decimal-more (s .args .n) (c .before .before .before .before .before .if1 .left) in
     let room : s .args .at + length (decimal (s .args .n)) ≤ length (now (s .args .out)) = s .pre .1 in
@@ -77,7 +78,8 @@ same-length-2 t c = search needs
 
 returns-2 : (t : ℕ) → put-decimal-lts.Need-returns-2 (calls t) (at-measure t) put-decimal.Post
 returns-2 t c =
-    let after-put-decimal = c .before .before .before .before .before .before in
+    let earlier = c .before .before .before .before .before in
+    let after-put-decimal = earlier .before in
     let s = after-put-decimal .before .before .before .before in
     let l = after-put-decimal .before .before .if1 .left in
     let p = after-put-decimal .put-decimal in

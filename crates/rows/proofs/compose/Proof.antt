@@ -1,8 +1,9 @@
 -- `compose` goes over the rows. The loop's invariant: the rows below i are those of the product, the others those of the left operand. The
 -- measure is the rows left. It rests on `product-store` and, for an empty row, `product-skip`. Assumes nothing.
+use mathlib.Core.List.{List}
 use mathlib.Core.Path.{_≡_, refl, sym, ap, _∙_}
 use mathlib.Core.Logic.{⊎-elim}
-use Prim.Native.Nat.{_≤_, _-_}
+use Prim.Native.Nat.{ℕ, _≤_, _-_}
 use native.Mathlib.Omega.{arith}
 use borrow.Author.Needs.{needs}
 use lib.ListN.{length}
@@ -16,10 +17,14 @@ use Rattle.rows.proofs.SearchLaws.{mask-empty, to-none, to-all, product
 use Rattle.rows.proofs.compose.Statement.{statement}
 use Rattle.rows.proofs.compose.Tie as tie
 
+-- what holds whenever the loop is at its head
+record Loop (a₀ columns : List ℕ) (n : ℕ) (a : List ℕ) (i : ℕ) : Type 0 where
+  inside : i ≤ n
+  as-long : length a ≡ length a₀
+  composed : (x y : Cells) → IsSet n x → IsSet n y → bitAt a₀ ≡ flat x → bitAt columns ≡ flat (transpose y) → bitAt a ≡ flat (rowsTo i (product n x y) x)
+
 abbrev Inv-loop : tie.InvT-loop
-Inv-loop a₀ columns n list m i₀ a i =
-    (i ≤ n) × (length a ≡ length a₀) × ((x y : Cells) → IsSet n x → IsSet n y → bitAt a₀ ≡ flat x → bitAt columns ≡ flat (transpose y)
-    → bitAt a ≡ flat (rowsTo i (product n x y) x))
+Inv-loop a₀ columns n list m i₀ a i = Loop a₀ columns n a i
 
 abbrev μ-loop : tie.MeasureT-loop
 μ-loop a₀ columns n list m i₀ a i = n - i
@@ -38,15 +43,25 @@ occupied-requires : tie.Need-occupied-requires Inv-loop μ-loop
 occupied-requires c κs = (omega arith, omega arith, refl)
 
 loop-holds : tie.Need-loop-holds Inv-loop μ-loop
-loop-holds c = (omega arith, refl, λ x y X Y ex ey. ex ∙ ap flat (sym (to-none (product _ x y) x)))
+loop-holds c =
+    record { inside = omega arith; as-long = refl; composed = λ x y X Y ex ey. ex ∙ ap flat (sym (to-none (product _ x y) x)) }
 
 squares-requires : tie.Need-squares-requires Inv-loop μ-loop
 squares-requires c κs = (omega arith, omega arith)
 
 product-row-requires : tie.Need-product-row-requires Inv-loop μ-loop
 product-row-requires c κs =
-    let o = occupied-of-squares (c .before .before .before .before) .occupied in
-    (omega arith, omega arith, c .before .before .before .before .squares .ensures .0, omega arith, o .kept .1 .1 .0, o .ensures .0, refl)
+    let after-squares = c .before .before .before .before in
+    let o = occupied-of-squares after-squares .occupied in
+    record {
+      a-long = omega arith;
+      i-in = omega arith;
+      mask-few = after-squares .squares .ensures .0;
+      columns-long = omega arith;
+      list-long = o .kept .1 .1 .0;
+      m-most = o .ensures .0;
+      row-long = refl;
+    }
 
 store-row-requires : tie.Need-store-row-requires Inv-loop μ-loop
 store-row-requires c κs = (c .before .before .before .product-row .kept .1 .1 .1 .1 .1 .1 .0, omega arith, omega arith)
@@ -61,22 +76,22 @@ loop-again c =
     let s = c .before .squares in
     let nl : a .n ≤ 1024 = omega arith in
     ⊎-elim
-    (λ w. (
-      omega arith,
-      rw (w .11) (w .8 .kept .1 .0 ∙ l .inv .1),
-      λ x y X Y ex ey.
-          let e = l .inv .2 x y X Y ex ey in
+    (λ w. record {
+      inside = omega arith;
+      as-long = rw (w .11) (w .8 .kept .1 .0 ∙ l .inv .as-long);
+      composed = λ x y X Y ex ey.
+          let e = l .inv .composed x y X Y ex ey in
           let r = w .4 .ensures (a .n) (s .ensures .1) (o .ensures .1) (o .ensures .2) (bits-none 16) in
-          rw (w .11) (w .8 .ensures ∙ rw (r, e, ey) (product-store (a .n) x y X Y nl (l .i))),
-    ))
-    (λ w. (
-      omega arith,
-      rw (w .1) (l .inv .1),
-      λ x y X Y ex ey.
-          let e = l .inv .2 x y X Y ex ey in
+          rw (w .11) (w .8 .ensures ∙ rw (r, e, ey) (product-store (a .n) x y X Y nl (l .i)));
+    })
+    (λ w. record {
+      inside = omega arith;
+      as-long = rw (w .1) (l .inv .as-long);
+      composed = λ x y X Y ex ey.
+          let e = l .inv .composed x y X Y ex ey in
           let z : EmptyRow (bitAt (l .a)) (l .i) = mask-empty (bitAt (l .a)) (l .i) (s .result) (s .ensures .1) (w .0 .left) in
-          rw (w .1) (e ∙ ap flat (product-skip (a .n) x y X Y nl (l .i) (rw e at z))),
-    ))
+          rw (w .1) (e ∙ ap flat (product-skip (a .n) x y X Y nl (l .i) (rw e at z)));
+    })
     (c .if1 .came)
 
 returns : tie.Need-returns Inv-loop μ-loop
@@ -84,7 +99,7 @@ returns c =
     let l = c .before .loop in
     let a = start-of-loop-end c .args in
     let e : l .i ≡ a .n = omega arith in
-    λ x y X Y ex ey. l .inv .2 x y X Y ex ey ∙ rw e (ap flat (to-all (a .n) (product (a .n) x y) x (product-set (a .n) x y X Y) X))
+    λ x y X Y ex ey. l .inv .composed x y X Y ex ey ∙ rw e (ap flat (to-all (a .n) (product (a .n) x y) x (product-set (a .n) x y X Y) X))
 
 pub compose-spec : {M : Type 1} → statement M
 compose-spec =

@@ -21,10 +21,14 @@ use Rattle.rows.proofs.PutLaws.{lettersOf, crossing, letters-out, cross
 use Rattle.rows.proofs.put_letters.Statement.{statement}
 use Rattle.rows.proofs.put_letters.Tie as tie
 
+-- what holds whenever the loop is at its head
+record Loop (words : List ℕ) (forward against : ℕ) (rows₀ rows : List ℕ) (i : ℕ) : Type 0 where
+  inside : i ≤ length words
+  as-long : length rows ≡ length rows₀
+  put : (x : Cells) → bitAt rows₀ ≡ flat x → bitAt rows ≡ flat (union x (crossedWords (take i words) forward against))
+
 abbrev Inv-loop : tie.InvT-loop
-Inv-loop words forward against rows₀ i₀ rows i =
-    (i ≤ length words) × (length rows ≡ length rows₀)
-    × ((x : Cells) → bitAt rows₀ ≡ flat x → bitAt rows ≡ flat (union x (crossedWords (take i words) forward against)))
+Inv-loop words forward against rows₀ i₀ rows i = Loop words forward against rows₀ rows i
 
 abbrev μ-loop : tie.MeasureT-loop
 μ-loop words forward against rows₀ i₀ rows i = length words - i
@@ -43,7 +47,8 @@ abbrev start-of-has-label2 : tie.After-has-label2 Inv-loop μ-loop → tie.Start
 start-of-has-label2 p = start-of-has-label (p .before .before)
 
 loop-holds : tie.Need-loop-holds Inv-loop μ-loop
-loop-holds c = (omega arith, refl, λ x e. e ∙ ap flat (sym (crossed-start x _ _)))
+loop-holds c =
+    record { inside = omega arith; as-long = refl; put = λ x e. e ∙ ap flat (sym (crossed-start x _ _)) }
 
 label-of-requires : tie.Need-label-of-requires Inv-loop μ-loop
 label-of-requires c κs = tt
@@ -79,17 +84,17 @@ forward c =
     let r = c .before .has-label .ensures ∙ ap (λ (k : ℕ). eqb (digit (a .forward) k) 1) (c .before .before .before .label-of .ensures) in
     let h : l .i < length ws = omega arith in
     let old : Held ws (a .forward) (a .against) (a .rows .now) (l .rows) (l .i) (l .i)
-    = λ x e. l .inv .2 x e ∙ ap (λ (t : Cells). flat (union x t)) (crossed-is (take (l .i) ws) (a .forward) (a .against)) in
+    = λ x e. l .inv .put x e ∙ ap (λ (t : Cells). flat (union x t)) (crossed-is (take (l .i) ws) (a .forward) (a .against)) in
     ⊎-elim
     (λ w. (
-      rw (w .5) (w .2 .kept .0 ∙ l .inv .1),
+      rw (w .5) (w .2 .kept .0 ∙ l .inv .as-long),
       λ x e.
           let b : Bits (flat x) = λ k. rw (← e) (bit-lt (a .rows .now) k) in
           rw (w .5) (w .2 .ensures ∙ ap (λ (k : ℕ). put k 1 (bitAt (l .rows))) (p .ensures)
           ∙ rw (old x e) (crossed-forward x ws (l .i) (a .forward) (a .against) h b qs (sym r ∙ w .0 .taken))),
     ))
     (λ w. (
-      rw (w .1) (l .inv .1),
+      rw (w .1) (l .inv .as-long),
       λ x e. rw (w .1) (old x e ∙ ap (λ (ps : List ℕ). flat (union x (crossing ps qs))) (letters-out (a .forward) ws (l .i) h (sym r ∙ w .0 .left))),
     ))
     (c .if1 .came)
@@ -115,22 +120,22 @@ loop-again c =
     let old = forward joined1 in
     let new = sym (crossed-is (take (l .i + 1) ws) (a .forward) (a .against)) in
     ⊎-elim
-    (λ w. (
-      omega arith,
-      rw (w .5) (w .2 .kept .0 ∙ old .0),
-      λ x e.
+    (λ w. record {
+      inside = omega arith;
+      as-long = rw (w .5) (w .2 .kept .0 ∙ old .0);
+      put = λ x e.
           let b : Bits (flat x) = λ k. rw (← e) (bit-lt (a .rows .now) k) in
           rw (w .5) (w .2 .ensures ∙ ap (λ (k : ℕ). put (k % 1024 * 1024 + k / 1024) 1 (bitAt (joined1 .if1 .rows))) (p .ensures)
           ∙ rw (old .1 x e) (crossed-against x ws (l .i) (a .forward) (a .against) h b ps (sym r ∙ w .0 .taken)
-          ∙ ap (λ (t : Cells). flat (union x t)) new)),
-    ))
-    (λ w. (
-      omega arith,
-      rw (w .1) (old .0),
-      λ x e.
+          ∙ ap (λ (t : Cells). flat (union x t)) new));
+    })
+    (λ w. record {
+      inside = omega arith;
+      as-long = rw (w .1) (old .0);
+      put = λ x e.
           rw (w .1) (old .1 x e ∙ ap (λ (qs : List ℕ). flat (union x (crossing ps qs))) (letters-out (a .against) ws (l .i) h (sym r ∙ w .0 .left))
-          ∙ ap (λ (t : Cells). flat (union x t)) new),
-    ))
+          ∙ ap (λ (t : Cells). flat (union x t)) new);
+    })
     (c .if2 .came)
 
 returns : tie.Need-returns Inv-loop μ-loop
@@ -138,7 +143,7 @@ returns c =
     let l = c .before .loop in
     let a = c .before .before .before .before .args in
     let h : l .i ≡ length (a .words .now) = omega arith in
-    λ x e. l .inv .2 x e ∙ ap (λ (t : Cells). flat (union x t)) (crossed-all (a .words .now) (l .i) (a .forward) (a .against) h)
+    λ x e. l .inv .put x e ∙ ap (λ (t : Cells). flat (union x t)) (crossed-all (a .words .now) (l .i) (a .forward) (a .against) h)
 
 pub put-letters-spec : {M : Type 1} → statement M
 put-letters-spec =

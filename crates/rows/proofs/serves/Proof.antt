@@ -2,6 +2,7 @@
 -- what is left of its word. Both invariants: no record passed serves; inside a square, what is left is its word from place k on. The measures are the
 -- squares and the places left. It rests on `record-next`, the next record of row i, and `meets-record`: it serves exactly if row j has it. Assumes
 -- nothing.
+use mathlib.Core.List.{List}
 use mathlib.Core.Path.{_≡_, refl, sym, _∙_}
 use mathlib.Core.Logic.{⊎-elim}
 use Prim.Native.Nat.{ℕ, _≤_, _<_, _+_, _-_, _*_, _/_, _^_}
@@ -18,17 +19,27 @@ use Rattle.rows.proofs.SearchLaws.{record-none, first-square, square-in
 use Rattle.rows.proofs.serves.Statement.{statement}
 use Rattle.rows.proofs.serves.Tie as tie
 
+-- what holds whenever the loop is at its head
+record Loop (a : List ℕ) (i : ℕ) (b : List ℕ) (j common s found k rest : ℕ) : Type 0 where
+  inside : k ≤ 64
+  rest-is : rest ≡ getD a (i * 16 + s) 0 / 2 ^ k
+  none-found : found ≡ 0
+  none-common : Common (bitAt a) (bitAt b) i j common → most (s * 64 + k) (meets (bitAt a) (bitAt b) i j) ≡ 0
+
 abbrev Inv-loop : tie.InvT-loop
-Inv-loop a i b j common found₀ s row column k₀ rest₀ found k rest =
-    (k ≤ 64) × (rest ≡ getD a (i * 16 + s) 0 / 2 ^ k) × (found ≡ 0)
-    × (Common (bitAt a) (bitAt b) i j common → most (s * 64 + k) (meets (bitAt a) (bitAt b) i j) ≡ 0)
+Inv-loop a i b j common found₀ s row column k₀ rest₀ found k rest = Loop a i b j common s found k rest
 
 abbrev μ-loop : tie.MeasureT-loop
 μ-loop a i b j common found₀ s row column k₀ rest₀ found k rest = 64 - k
 
+-- what holds whenever the search is at its head
+record Search (a : List ℕ) (i : ℕ) (b : List ℕ) (j common found s : ℕ) : Type 0 where
+  inside : s ≤ 16
+  none-found : found ≡ 0
+  none-common : Common (bitAt a) (bitAt b) i j common → most (s * 64) (meets (bitAt a) (bitAt b) i j) ≡ 0
+
 abbrev Inv-search : tie.InvT-search
-Inv-search a i b j common found₀ s₀ found s =
-    (s ≤ 16) × (found ≡ 0) × (Common (bitAt a) (bitAt b) i j common → most (s * 64) (meets (bitAt a) (bitAt b) i j) ≡ 0)
+Inv-search a i b j common found₀ s₀ found s = Search a i b j common found s
 
 abbrev μ-search : tie.MeasureT-search
 μ-search a i b j common found₀ s₀ found s = 16 - s
@@ -50,11 +61,11 @@ search-holds : tie.Need-search-holds Inv-loop μ-loop Inv-search μ-search
 search-holds c =
     let a = c .args in
     let f = first-square (a .common) (omega arith) (omega arith) in
-    (omega (arith, f), refl, λ g. common-first (a .a .now) (a .b .now) (a .i) (a .j) (a .common) g f)
+    record { inside = omega (arith, f); none-found = refl; none-common = λ g. common-first (a .a .now) (a .b .now) (a .i) (a .j) (a .common) g f }
 
 -- a square in common is one of the sixteen
 inside : (c : tie.In-search Inv-loop μ-loop Inv-search μ-search) → c .before .search .s < 16
-inside c = square-inside (c .before .before .args .common) (c .before .search .s) (omega arith) (c .before .search .inv .0) (c .search-test .taken)
+inside c = square-inside (c .before .before .args .common) (c .before .search .s) (omega arith) (c .before .search .inv .inside) (c .search-test .taken)
 
 shared-slice-read-row : tie.Need-shared-slice-read-row Inv-loop μ-loop Inv-search μ-search
 shared-slice-read-row c = omega (arith, inside (c .before))
@@ -85,12 +96,13 @@ loop-holds : tie.Need-loop-holds Inv-loop μ-loop Inv-search μ-search
 loop-holds c =
     let S = c .before .before .before .before .search in
     let a = c .before .before .before .before .before .args in
-    let column = getD (a .b .now) (a .j * 16 + S .s) 0 in (
-      trailing-le 64 column,
-      refl,
-      S .inv .1,
-      λ g. most-far (S .s * 64) (trailingZeros 64 column) _ (S .inv .2 g) (meets-before (a .a .now) (a .b .now) (a .i) (a .j) (S .s)),
-    )
+    let column = getD (a .b .now) (a .j * 16 + S .s) 0 in
+    record {
+      inside = trailing-le 64 column;
+      rest-is = refl;
+      none-found = S .inv .none-found;
+      none-common = λ g. most-far (S .s * 64) (trailingZeros 64 column) _ (S .inv .none-common g) (meets-before (a .a .now) (a .b .now) (a .i) (a .j) (S .s));
+    }
 
 -- the next record of row i, and that those before it do not serve
 next : (c : tie.In-loop Inv-loop μ-loop Inv-search μ-search)
@@ -107,7 +119,7 @@ next c =
     let a = at-search .before .args in
     let l = c .before .loop in
     let f = c .before .before .before .before .shared-slice-known .given (a .i * 16 + at-search .search .s) .fits in
-    record-next (a .a .now) (a .b .now) (a .i) (a .j) (at-search .search .s) (l .k) (l .rest) (l .inv .1) f (omega (arith, c .loop-test .taken))
+    record-next (a .a .now) (a .b .now) (a .i) (a .j) (at-search .search .s) (l .k) (l .rest) (l .inv .rest-is) f (omega (arith, c .loop-test .taken))
 
 add-k : tie.Need-add-k Inv-loop μ-loop Inv-search μ-search
 add-k c = omega (arith, next c .0)
@@ -139,13 +151,14 @@ loop-again c =
     let t = trailingZeros 64 (l .rest) in
     let N = next (c .before) in
     let e : S .s * 64 + (l .k + t + 1) ≡ S .s * 64 + (l .k + t) + 1 = omega arith in
-    let d : S .s * 64 + l .k + t ≡ S .s * 64 + (l .k + t) = omega arith in (
-      omega (arith, N .0),
-      N .3,
-      l .inv .2,
-      λ g. rw e (most-more (S .s * 64 + (l .k + t)) _ (rw d at (most-far (S .s * 64 + l .k) t _ (l .inv .3 g) (N .2)))
-          (meets-record (a .a .now) (a .b .now) (a .i) (a .j) (S .s) (l .k + t) (N .0) (N .1) ∙ omega arith)),
-    )
+    let d : S .s * 64 + l .k + t ≡ S .s * 64 + (l .k + t) = omega arith in
+    record {
+      inside = omega (arith, N .0);
+      rest-is = N .3;
+      none-found = l .inv .none-found;
+      none-common = λ g. rw e (most-more (S .s * 64 + (l .k + t)) _ (rw d at (most-far (S .s * 64 + l .k) t _ (l .inv .none-common g) (N .2)))
+          (meets-record (a .a .now) (a .b .now) (a .i) (a .j) (S .s) (l .k + t) (N .0) (N .1) ∙ omega arith));
+    }
 
 search-less : tie.Need-search-less Inv-loop μ-loop Inv-search μ-search
 search-less c = omega (arith, inside (c .before .before .before))
@@ -154,26 +167,28 @@ search-again : tie.Need-search-again Inv-loop μ-loop Inv-search μ-search
 search-again c =
     let S = c .before .before .before .before .search in
     let a = c .before .before .before .before .before .args in
-    let e : (S .s + 1) * 64 ≡ S .s * 64 + 64 = omega arith in (
-      omega (arith, inside (c .before .before .before)),
-      ⊎-elim (λ w. w .3 ∙ w .1 .inv .2) (λ w. w .1 ∙ S .inv .1) (c .if1 .came),
-      λ g. rw e (
+    let e : (S .s + 1) * 64 ≡ S .s * 64 + 64 = omega arith in
+    record {
+      inside = omega (arith, inside (c .before .before .before));
+      none-found = ⊎-elim (λ w. w .3 ∙ w .1 .inv .none-found) (λ w. w .1 ∙ S .inv .none-found) (c .if1 .came);
+      none-common = λ g. rw e (
           ⊎-elim
           (λ w.
           let l = w .1 in
-          let d : S .s * 64 + l .k + (64 - l .k) ≡ S .s * 64 + 64 = omega (arith, l .inv .0) in
-          rw d at (most-far (S .s * 64 + l .k) (64 - l .k) _ (l .inv .3 g)
-          (λ m h k. record-none (a .a .now) (a .b .now) (a .i) (a .j) (S .s) (l .k) (l .rest) (l .inv .1) (w .2 .left) m h (omega (arith, d)))))
-          (λ w. most-far (S .s * 64) 64 _ (S .inv .2 g) (meets-word (a .a .now) (a .b .now) (a .i) (a .j) (S .s) (w .0 .left)))
-          (c .if1 .came)),
-    )
+          let d : S .s * 64 + l .k + (64 - l .k) ≡ S .s * 64 + 64 = omega (arith, l .inv .inside) in
+          rw d at (most-far (S .s * 64 + l .k) (64 - l .k) _ (l .inv .none-common g)
+          (λ m h k. record-none (a .a .now) (a .b .now) (a .i) (a .j) (S .s) (l .k) (l .rest) (l .inv .rest-is) (w .2 .left) m h (omega (arith, d)))))
+          (λ w. most-far (S .s * 64) 64 _ (S .inv .none-common g) (meets-word (a .a .now) (a .b .now) (a .i) (a .j) (S .s) (w .0 .left)))
+          (c .if1 .came));
+    }
 
 returns : tie.Need-returns Inv-loop μ-loop Inv-search μ-search
 unfolding served
 returns c =
     let S = c .before .search in
     let a = c .before .before .args in
-    λ g. S .inv .1 ∙ sym (common-last (a .a .now) (a .b .now) (a .i) (a .j) (a .common) g (S .s) (S .inv .0) (c .search-test .left) (S .inv .2 g))
+    λ g. S .inv .none-found
+    ∙ sym (common-last (a .a .now) (a .b .now) (a .i) (a .j) (a .common) g (S .s) (S .inv .inside) (c .search-test .left) (S .inv .none-common g))
 
 returns-2 : tie.Need-returns-2 Inv-loop μ-loop Inv-search μ-search
 unfolding digit served

@@ -1,8 +1,9 @@
 -- `set_diagonal` sets a bit for each record of the set. The loop's invariant: those below i are joined to themselves. The measure is the records
 -- left. It rests on `diagonal-more` and `diagonal-skip`. Assumes nothing.
+use mathlib.Core.List.{List}
 use mathlib.Core.Path.{_≡_, refl, sym, ap, _∙_}
 use mathlib.Core.Logic.{⊎-elim}
-use Prim.Native.Nat.{_≤_, _-_}
+use Prim.Native.Nat.{ℕ, _≤_, _-_}
 use native.Mathlib.Omega.{arith}
 use borrow.Author.Needs.{needs}
 use lib.ListN.{length}
@@ -15,10 +16,14 @@ use Rattle.rows.proofs.PutLaws.{diagonal-none, diagonal-more, diagonal-
 use Rattle.rows.proofs.set_diagonal.Statement.{statement}
 use Rattle.rows.proofs.set_diagonal.Tie as tie
 
+-- what holds whenever the loop is at its head
+record Loop (rows₀ records rows : List ℕ) (i : ℕ) : Type 0 where
+  inside : i ≤ 1024
+  as-long : length rows ≡ length rows₀
+  put : (x : Cells) → bitAt rows₀ ≡ flat x → bitAt rows ≡ flat (union x (diagonal (below i (bitAt records))))
+
 abbrev Inv-loop : tie.InvT-loop
-Inv-loop rows₀ records i₀ rows i =
-    (i ≤ 1024) × (length rows ≡ length rows₀)
-    × ((x : Cells) → bitAt rows₀ ≡ flat x → bitAt rows ≡ flat (union x (diagonal (below i (bitAt records)))))
+Inv-loop rows₀ records i₀ rows i = Loop rows₀ records rows i
 
 abbrev μ-loop : tie.MeasureT-loop
 μ-loop rows₀ records i₀ rows i = 1024 - i
@@ -28,7 +33,7 @@ abbrev start-of-bit : tie.After-bit Inv-loop μ-loop → tie.Start Inv-loop μ-l
 start-of-bit p = p .before .before .before .before .before
 
 loop-holds : tie.Need-loop-holds Inv-loop μ-loop
-loop-holds c = (omega arith, refl, λ x e. e ∙ ap flat (sym (diagonal-none x _)))
+loop-holds c = record { inside = omega arith; as-long = refl; put = λ x e. e ∙ ap flat (sym (diagonal-none x _)) }
 
 bit-requires : tie.Need-bit-requires Inv-loop μ-loop
 bit-requires c κs = tt
@@ -40,20 +45,20 @@ loop-again c =
     let f = bitAt (a .records .now) in
     let r = c .before .bit .ensures in
     ⊎-elim
-    (λ w. (
-      omega arith,
-      rw (w .5) (w .2 .kept .0 ∙ l .inv .1),
-      λ x e.
+    (λ w. record {
+      inside = omega arith;
+      as-long = rw (w .5) (w .2 .kept .0 ∙ l .inv .as-long);
+      put = λ x e.
           let b : Bits (flat x) = λ k. rw (← e) (bit-lt (a .rows .now) k) in
-          rw (w .5) (w .2 .ensures ∙ rw (l .inv .2 x e) (diagonal-more f (bit-lt (a .records .now)) x (l .i) (omega arith) b (sym r ∙ w .0 .taken))),
-    ))
-    (λ w. (
-      omega arith,
-      rw (w .1) (l .inv .1),
-      λ x e.
+          rw (w .5) (w .2 .ensures ∙ rw (l .inv .put x e) (diagonal-more f (bit-lt (a .records .now)) x (l .i) (omega arith) b (sym r ∙ w .0 .taken)));
+    })
+    (λ w. record {
+      inside = omega arith;
+      as-long = rw (w .1) (l .inv .as-long);
+      put = λ x e.
           let z : f (l .i) ≡ 0 = omega (arith, r, w .0 .left, bit-lt (a .records .now) (l .i)) in
-          rw (w .1) (l .inv .2 x e ∙ ap (λ (t : Cells). flat (union x t)) (diagonal-skip f (bit-lt (a .records .now)) (l .i) z)),
-    ))
+          rw (w .1) (l .inv .put x e ∙ ap (λ (t : Cells). flat (union x t)) (diagonal-skip f (bit-lt (a .records .now)) (l .i) z));
+    })
     (c .if1 .came)
 
 returns : tie.Need-returns Inv-loop μ-loop
@@ -61,7 +66,7 @@ returns c =
     let l = c .before .loop in
     let a = c .before .before .before .before .args in
     let h : l .i ≡ 1024 = omega arith in
-    λ x e. l .inv .2 x e ∙ rw h (ap (λ (t : Cells). flat (union x t)) (diagonal-all (a .records .now) (omega arith)))
+    λ x e. l .inv .put x e ∙ rw h (ap (λ (t : Cells). flat (union x t)) (diagonal-all (a .records .now) (omega arith)))
 
 pub set-diagonal-spec : {M : Type 1} → statement M
 set-diagonal-spec =

@@ -23,7 +23,8 @@ returns-2 c = c .before .before .halt .ensures _ _ (omega arith)
 
 -- a whole frame has a length, a kind, and all its bytes
 facts : (c : tie.Else2)
-    → let start = c .before .before .before .before .before .before .before in
+    → let earlier = c .before .before .before .before .before in
+    let start = earlier .before .before in
     (4 ≤ c .before .front .result) × (c .before .front .result ≤ length (now (start .args .input)))
 facts c =
     let else1 = c .before .before in

@@ -7,6 +7,10 @@ use borrow.Author.Needs.{needs}
 use Rattle.support.proofs.list_fallen.Statement.{statement}
 use Rattle.support.proofs.list_fallen.Tie as tie
 
+-- The places that the needs come back to.
+abbrev fallen-of-copy-u32 : tie.After-copy-u32 → tie.After-fallen
+fallen-of-copy-u32 p = p .before .before .before .before .before
+
 returns : tie.Need-returns
 returns c = let f = c .before .before .fallen in
     handed-short (f .result .words) (f .result .count) (omega (arith, f .ensures .0, f .ensures .1)) (f .ensures .2) (c .if1 .taken)
@@ -22,7 +26,7 @@ copy-u32-requires c κs = let f = c .before .before .before .before .fallen in
     omega (arith, e, c .before .before .if1 .left)
 
 returns-2 : tie.Need-returns-2
-returns-2 c = let f = c .before .before .before .before .before .before .before .fallen in
+returns-2 c = let f = fallen-of-copy-u32 (c .before .before) .fallen in
     handed-whole (f .result .words) (f .result .count) (omega (arith, f .ensures .0, f .ensures .1))
     (f .ensures .2) (c .before .before .before .before .before .if1 .left) (c .before .before .copy-u32 .ensures)
 

@@ -10,11 +10,18 @@ use borrow.Author.Needs.{needs}
 use Rattle.support.proofs.mark_records.Statement.{statement}
 use Rattle.support.proofs.mark_records.Tie as tie
 
+-- The places that the needs come back to.
+abbrev start-of-relate-over : tie.After-relate-over → tie.Start
+start-of-relate-over p = let at-shared-slice-known2 = p .before .before .before .before .before in at-shared-slice-known2 .before .before
+
+abbrev relate-over-of-match-keys1 : tie.At-match-keys1 → tie.After-relate-over
+relate-over-of-match-keys1 p = p .before .before .before .before
+
 joined-records-requires : tie.Need-joined-records-requires
 joined-records-requires c κs =
     let after-answer2 = c .before .before .before in
     let after-relate = after-answer2 .before .before .before .before .before in
-    let start = after-relate .before .before .before .before .before .before .before in
+    let start = start-of-relate-over after-relate in
     let r = after-relate .relate-over .ensures in
     let e = after-answer2 .answer2 .given .1 in
     let m = r .relating .masks in
@@ -25,7 +32,7 @@ joined-records-requires c κs =
     )
 
 returns : tie.Need-returns
-returns c = marks-refused (c .before .before .before .before .before .before .relate-over .ensures .relating) (c .before .answer .given .1) _ refl
+returns c = marks-refused (relate-over-of-match-keys1 (c .before .before) .relate-over .ensures .relating) (c .before .answer .given .1) _ refl
 
 returns-2 : tie.Need-returns-2
 returns-2 c =

@@ -7,6 +7,13 @@ use borrow.Author.Needs.{needs}
 use Rattle.support.proofs.supported.Statement.{statement}
 use Rattle.support.proofs.supported.Tie as tie
 
+-- The places that the needs come back to.
+abbrev start-of-beyond : tie.After-beyond → tie.Start
+start-of-beyond p = let at-shared-slice-known3 = p .before .before .before .before .before in at-shared-slice-known3 .before .before .before
+
+abbrev start-of-spared : tie.After-spared → tie.Start
+start-of-spared p = start-of-beyond (p .before .before .before .before)
+
 returns : tie.Need-returns
 returns c = λ r O. refuses-core _ _ _ _ (λ b R. O b R .size) (c .if1 .taken)
 
@@ -23,19 +30,20 @@ compared-requires : tie.Need-compared-requires
 compared-requires c κs =
     let else3 = c .before .before .before in
     let after-beyond = else3 .before .before .before in
-    let start = after-beyond .before .before .before .before .before .before .before .before in (
-      start .pre .0,
-      start .pre .1,
-      after-beyond .before .if1 .left,
-      sym (after-beyond .beyond .ensures) ∙ else3 .before .before .if2 .left,
-      sym (else3 .before .ascending .ensures) ∙ not-false (else3 .before .ascending .result) (else3 .if3 .left),
-    )
+    let start = start-of-beyond after-beyond in
+    record {
+      few = start .pre .0;
+      few-links = start .pre .1;
+      core-in = after-beyond .before .if1 .left;
+      anchors-in = sym (after-beyond .beyond .ensures) ∙ else3 .before .before .if2 .left;
+      ascending = sym (else3 .before .ascending .ensures) ∙ not-false (else3 .before .ascending .result) (else3 .if3 .left);
+    }
 
 returns-4 : tie.Need-returns-4
 returns-4 c =
     let after-compared = c .before .before .before .before in
     let after-spared = after-compared .before .before .before in
-    let start = after-spared .before .before .before .before .before .before .before .before .before .before .before .before in
+    let start = start-of-spared after-spared in
     λ r O. supports _ (λ b R. O b R .size) O
     (part-length (start .args .work .now) _ _ (after-spared .spared .ensures)) (after-compared .compared .ensures)
 

@@ -11,15 +11,22 @@ use lib.Seq.{drop-cons}
 use Rattle.paths.specs.Expressions.{Expr}
 use Rattle.paths.specs.Verdicts.{InLimits}
 use Rattle.reader.specs.Code.{code, value}
+use Rattle.tables.specs.declared.Stack.{Stack}
 use Rattle.tables.specs.Builds.{parts, build, Next, Alone}
 use Rattle.tables.proofs.RunLaws.{next-none, holds-none, at-end, alone-top}
 use Rattle.tables.proofs.built.Statement.{statement}
 use Rattle.tables.proofs.built.Tie as tie
 
+-- what holds whenever the loop is at its head
+record Loop (numbers follow pred enter : List ℕ) (s : Stack) (i : ℕ) : Type 0 where
+  inside : i ≤ length numbers
+  follow-long : length follow ≡ 64
+  pred-long : length pred ≡ 64
+  enter-long : length enter ≡ 64
+  next-of : (text : List ℕ) (e : Expr) → InLimits text e → numbers ≡ code e → Next (build follow pred enter s) (drop i numbers) (value parts e)
+
 abbrev Inv-loop : tie.InvT-loop
-Inv-loop numbers against follow₀ pred₀ enter₀ s₀ i₀ follow pred enter s i =
-    (i ≤ length numbers) × (length follow ≡ 64) × (length pred ≡ 64) × (length enter ≡ 64)
-    × ((text : List ℕ) (e : Expr) → InLimits text e → numbers ≡ code e → Next (build follow pred enter s) (drop i numbers) (value parts e))
+Inv-loop numbers against follow₀ pred₀ enter₀ s₀ i₀ follow pred enter s i = Loop numbers follow pred enter s i
 
 abbrev μ-loop : tie.MeasureT-loop
 μ-loop numbers against follow₀ pred₀ enter₀ s₀ i₀ follow pred enter s i = length numbers - i
@@ -43,7 +50,13 @@ inverted-of-slice-known9 p = let at-follow2 = p .before .before .before .before 
 loop-holds : tie.Need-loop-holds Inv-loop μ-loop
 loop-holds c =
     let p = c .before .before .before .before .pre in
-    (omega arith, p .0, p .1, p .2, λ text e L q. next-none L q (holds-none _ _ _ (p .3) (p .4) (p .5) _ _ _ _))
+    record {
+      inside = omega arith;
+      follow-long = p .0 .follow-long;
+      pred-long = p .0 .pred-long;
+      enter-long = p .0 .enter-long;
+      next-of = λ text e L q. next-none L q (holds-none _ _ _ (p .1 .no-follow) (p .1 .no-pred) (p .1 .no-enter) _ _ _ _);
+    }
 
 step-requires : tie.Need-step-requires Inv-loop μ-loop
 step-requires c κs =
@@ -52,10 +65,12 @@ step-requires c κs =
     let p = start .pre in
     let s = start .args .numbers .now in
     let l = at-loop .loop in (
-      l .inv .1,
-      l .inv .2,
-      l .inv .3,
-      (drop (suc (l .i)) s, value parts (p .6 .1), rw (drop-cons s (l .i) 0 (omega arith)) at (l .inv .4 (p .6 .0) (p .6 .1) (p .6 .2) (p .6 .3))),
+      record {
+        follow-long = l .inv .follow-long;
+        pred-long = l .inv .pred-long;
+        enter-long = l .inv .enter-long;
+      },
+      (drop (suc (l .i)) s, value parts (p .2 .1), rw (drop-cons s (l .i) 0 (omega arith)) at (l .inv .next-of (p .2 .0) (p .2 .1) (p .2 .2) (p .2 .3))),
     )
 
 loop-again : tie.Need-loop-again Inv-loop μ-loop
@@ -65,13 +80,15 @@ loop-again c =
     let start = at-loop .before .before .before .before .before in
     let s = start .args .numbers .now in
     let l = at-loop .loop in
-    let t = after-step .step in (
-      omega arith,
-      t .kept .0 ∙ l .inv .1,
-      t .kept .1 .0 ∙ l .inv .2,
-      t .kept .1 .1 .0 ∙ l .inv .3,
-      λ text e L q. rw add-one (t .ensures (drop (suc (l .i)) s) (value parts e) (rw (drop-cons s (l .i) 0 (omega arith)) at (l .inv .4 text e L q))),
-    )
+    let t = after-step .step in
+    record {
+      inside = omega arith;
+      follow-long = t .kept .0 ∙ l .inv .follow-long;
+      pred-long = t .kept .1 .0 ∙ l .inv .pred-long;
+      enter-long = t .kept .1 .1 .0 ∙ l .inv .enter-long;
+      next-of =
+          λ text e L q. rw add-one (t .ensures (drop (suc (l .i)) s) (value parts e) (rw (drop-cons s (l .i) 0 (omega arith)) at (l .inv .next-of text e L q)));
+    }
 
 -- one part waits
 alone : (c : tie.After-loop Inv-loop μ-loop)
@@ -81,15 +98,15 @@ alone : (c : tie.After-loop Inv-loop μ-loop)
 alone c text e L q =
     let l = c .before .loop in
     let s = start-of-loop-end c .args .numbers .now in
-    at-end (rw (drop-of-length-le s (let z : length s ≤ l .i = omega arith in z)) at (l .inv .4 text e L q))
+    at-end (rw (drop-of-length-le s (let z : length s ≤ l .i = omega arith in z)) at (l .inv .next-of text e L q))
 
 inverted-requires : tie.Need-inverted-requires Inv-loop μ-loop
 inverted-requires c κs =
     let after-loop = c .before .before .before .before in
     let p = start-of-loop-end after-loop .pre in
     let l = after-loop .before .loop in
-    let z = alone-top (alone after-loop (p .6 .0) (p .6 .1) (p .6 .2) (p .6 .3)) in
-    (l .inv .1, l .inv .2, l .inv .3, z .0, z .1)
+    let z = alone-top (alone after-loop (p .2 .0) (p .2 .1) (p .2 .2) (p .2 .3)) in
+    (record { follow-long = l .inv .follow-long; pred-long = l .inv .pred-long; some = z .0; few = z .1 }, l .inv .enter-long)
 
 returns : tie.Need-returns Inv-loop μ-loop
 returns c =

@@ -9,8 +9,10 @@ use Rattle.test_chains.proofs.lent.Tie as tie
 print-steps-requires : tie.Need-print-steps-requires
 unfolding chainCounted counted
 print-steps-requires c κs =
-    let after-answer = c .before .before .before .before .before .before .before in
-    let after-chain = after-answer .before .before .before .before .before .before in
+    let earlier = c .before .before .before .before .before in
+    let after-answer = earlier .before .before in
+    let earlier′ = after-answer .before .before .before .before .before in
+    let after-chain = earlier′ .before in
     let fits = after-chain .chain .ensures .contained .fits in
     let steps = rw (after-answer .answer .given .1) at fits in
     let same = after-chain .chain .kept .1 .1 .1 .1 .1 .0 in

@@ -8,13 +8,20 @@ use Rattle.test_trees.proofs.MarkLaws.{identity-made}
 use Rattle.test_trees.proofs.tree_identity_in.Statement.{statement}
 use Rattle.test_trees.proofs.tree_identity_in.Tie as tie
 
+-- The places that the needs come back to.
+abbrev start-of-on-trees : tie.After-on-trees → tie.Start
+start-of-on-trees p = let at-mark = p .before .before .before .before in at-mark .before .before .before .before
+
+abbrev mark-of-on-trees : tie.After-on-trees → tie.After-mark
+mark-of-on-trees p = p .before .before .before .before
+
 returns : tie.Need-returns
 returns c = λ p a i e. absurd (omega (arith, p .size))
 
 returns-2 : tie.Need-returns-2
 returns-2 c =
-    let g = c .before .before .before .before .before .before .before .before .before .before .args in
-    let m = c .before .before .before .before .before .before .mark in
+    let g = start-of-on-trees (c .before .before) .args in
+    let m = mark-of-on-trees (c .before .before) .mark in
     let k : length (m .last .0) ≡ 16 = m .kept .0 in
     identity-made (g .n) (g .left) (m .last .0) (g .work .now) _ _ k (m .ensures (bits-none 16)) (c .before .before .on-trees .ensures)
 

@@ -66,10 +66,10 @@ visit-mul-known t c = search needs
 visit-slice-read-known : (t : ℕ) → visit-lts.Need-slice-read-known (visit-calls t) (visit-at t) visit.Post visit-Inv-loop visit-μ-loop
 visit-slice-read-known t c =
     let start = c .before .before .before .before in
-    omega (arith, start .pre .1 .2, start .pre .1 .3)
+    omega (arith, start .pre .1 .inside, start .pre .1 .depths-long)
 
 visit-returns : (t : ℕ) → visit-lts.Need-returns (visit-calls t) (visit-at t) visit.Post visit-Inv-loop visit-μ-loop
-visit-returns t c = visited-known refl (c .if1 .taken) (c .before .before .before .before .before .pre .1 .5)
+visit-returns t c = visited-known refl (c .if1 .taken) (c .before .before .before .before .before .pre .1 .bounded)
 
 visit-mul-depths : (t : ℕ) → visit-lts.Need-mul-depths (visit-calls t) (visit-at t) visit.Post visit-Inv-loop visit-μ-loop
 visit-mul-depths t c = search needs
@@ -77,10 +77,10 @@ visit-mul-depths t c = search needs
 visit-slice-write-depths : (t : ℕ) → visit-lts.Need-slice-write-depths (visit-calls t) (visit-at t) visit.Post visit-Inv-loop visit-μ-loop
 visit-slice-write-depths t c =
     let start = c .before .before .before .before .before in
-    omega (arith, start .pre .1 .2, start .pre .1 .3)
+    omega (arith, start .pre .1 .inside, start .pre .1 .depths-long)
 
 visit-first-arc-requires : (t : ℕ) → visit-lts.Need-first-arc-requires (visit-calls t) (visit-at t) visit.Post visit-Inv-loop visit-μ-loop
-visit-first-arc-requires t c κs = let w = c .before .before .before .before .before .pre .1 in omega (arith, w .1, w .2)
+visit-first-arc-requires t c κs = let w = c .before .before .before .before .before .pre .1 in omega (arith, w .index-long, w .inside)
 
 visit-loop-holds : (t : ℕ) → visit-lts.Need-loop-holds (visit-calls t) (visit-at t) visit.Post visit-Inv-loop visit-μ-loop
 visit-loop-holds t c =
@@ -89,13 +89,14 @@ visit-loop-holds t c =
     let w = start .pre .1 in
     let a = start .args in
     let e = else1 .if1 .left in
-    rw (c .first-arc .ensures) (back-looking e (looking-begins (a .links .now) (a .index .now) (w .4) (a .y) (a .depths .now) (w .2) (w .3) e (w .5)))
+    rw (c .first-arc .ensures) (back-looking e
+    (looking-begins (a .links .now) (a .index .now) (w .indexed) (a .y) (a .depths .now) (w .inside) (w .depths-long) e (w .bounded)))
 
 visit-sub-j : (t : ℕ) → visit-lts.Need-sub-j (visit-calls t) (visit-at t) visit.Post visit-Inv-loop visit-μ-loop
 visit-sub-j t c = omega (arith, c .loop-test .taken)
 
 visit-mul-from : (t : ℕ) → visit-lts.Need-mul-from (visit-calls t) (visit-at t) visit.Post visit-Inv-loop visit-μ-loop
-visit-mul-from t c = let L = looked t (c .before) in omega (arith, L .cursor .0, start-of-loop t (c .before) .pre .1 .0)
+visit-mul-from t c = let L = looked t (c .before) in omega (arith, L .cursor .0, start-of-loop t (c .before) .pre .1 .few)
 
 visit-shared-slice-read-from : (t : ℕ) → visit-lts.Need-shared-slice-read-from (visit-calls t) (visit-at t) visit.Post visit-Inv-loop visit-μ-loop
 visit-shared-slice-read-from t c = let L = looked t (c .before .before) in omega (arith, L .cursor .0, c .before .loop-test .taken)
@@ -110,7 +111,14 @@ visit-visit-requires t c κs =
     let w = start .pre .1 in
     let L = looked t at-loop in (
       subst (λ (k : ℕ). newCount (at-loop .loop .depths) < k) (start .pre .0) (L .fewer),
-      (w .0, w .1, omega arith, L .long ∙ w .3, w .4, L .bounded),
+      record {
+        few = w .few;
+        index-long = w .index-long;
+        inside = omega arith;
+        depths-long = L .long ∙ w .depths-long;
+        indexed = w .indexed;
+        bounded = L .bounded;
+      },
     )
 
 -- y and what was found at a record from which a link leads to it
@@ -129,7 +137,7 @@ visit-returns-2 t c =
     let start = else1 .before .before .before .before .before in
     let w = start .pre .1 in
     let a = start .args in
-    visited-loop (a .links .now) (a .index .now) (w .4) (a .y) (a .depths .now) (w .2) (w .3)
+    visited-loop (a .links .now) (a .index .now) (w .indexed) (a .y) (a .depths .now) (w .inside) (w .depths-long)
     (else1 .if1 .left) (looked t (in-loop .before)) (omega (arith, in-loop .loop-test .taken))
     (after-visit .visit .ensures) (c .if2 .taken)
 
@@ -149,7 +157,7 @@ visit-next-arc-requires t c κs =
     let at-loop = after-visit .before .before .before .before in
     let w = start-of-loop t at-loop .pre .1 in
     let L = looked t at-loop in
-    (omega (arith, L .cursor .0, w .0, w .1), omega (arith, L .cursor .0, w .0))
+    (omega (arith, L .cursor .0, w .few, w .index-long), omega (arith, L .cursor .0, w .few))
 
 visit-loop-less : (t : ℕ) → visit-lts.Need-loop-less (visit-calls t) (visit-at t) visit.Post visit-Inv-loop visit-μ-loop
 visit-loop-less t c =
@@ -159,7 +167,7 @@ visit-loop-less t c =
     let w = start .pre .1 in
     let L = looked t (in-loop .before) in
     let h : 0 < in-loop .before .loop .cursor = omega (arith, in-loop .loop-test .taken) in
-    omega (arith, next-falls (w .4) (L .cursor) h, c .next-arc .ensures)
+    omega (arith, next-falls (w .indexed) (L .cursor) h, c .next-arc .ensures)
 
 visit-loop-again : (t : ℕ) → visit-lts.Need-loop-again (visit-calls t) (visit-at t) visit.Post visit-Inv-loop visit-μ-loop
 unfolding arcFrom
@@ -171,18 +179,18 @@ visit-loop-again t c =
     let w = start .pre .1 in
     let a = start .args in
     let e = else1 .if1 .left in
-    let m = looking-more (a .links .now) (a .index .now) (w .4) (a .y) (a .depths .now)
-    (w .2) (w .3) e (looked t (in-loop .before)) (omega (arith, in-loop .loop-test .taken))
+    let m = looking-more (a .links .now) (a .index .now) (w .indexed) (a .y) (a .depths .now)
+    (w .inside) (w .depths-long) e (looked t (in-loop .before)) (omega (arith, in-loop .loop-test .taken))
     (after-visit .visit .ensures) (c .before .before .if2 .left) (after-visit .visit .kept .1 .1 .1 .0) in
     rw (c .next-arc .ensures, c .before .deeper .ensures) (back-looking e m)
 
 visit-mul-depths-2 : (t : ℕ) → visit-lts.Need-mul-depths-2 (visit-calls t) (visit-at t) visit.Post visit-Inv-loop visit-μ-loop
-visit-mul-depths-2 t c = omega (arith, start-of-loop t (c .before) .pre .1 .2)
+visit-mul-depths-2 t c = omega (arith, start-of-loop t (c .before) .pre .1 .inside)
 
 visit-slice-write-depths-2 : (t : ℕ) → visit-lts.Need-slice-write-depths-2 (visit-calls t) (visit-at t) visit.Post visit-Inv-loop visit-μ-loop
 visit-slice-write-depths-2 t c =
     let start = start-of-loop t (c .before) in
-    let L = looked t (c .before) in omega (arith, L .long, start .pre .1 .2, start .pre .1 .3)
+    let L = looked t (c .before) in omega (arith, L .long, start .pre .1 .inside, start .pre .1 .depths-long)
 
 visit-same-length-2 : (t : ℕ) → visit-lts.Need-same-length-2 (visit-calls t) (visit-at t) visit.Post visit-Inv-loop visit-μ-loop
 visit-same-length-2 t c =
@@ -196,7 +204,7 @@ visit-returns-3 t c =
     let w = start .pre .1 in
     let a = start .args in
     let z : c .before .loop .cursor ≡ 0 = omega (arith, c .loop-test .left) in
-    visited-done (a .links .now) (a .index .now) (w .4) (a .y) (a .depths .now) (w .2) (w .3) (else1 .if1 .left)
+    visited-done (a .links .now) (a .index .now) (w .indexed) (a .y) (a .depths .now) (w .inside) (w .depths-long) (else1 .if1 .left)
     (subst (λ (p : ℕ). Looking (a .links .now) (a .y) (a .depths .now) (c .before .loop .depths) (c .before .loop .depth) p) z (looked t (c .before)))
 
 pub +visit-spec : {M : Type 1} → statement M

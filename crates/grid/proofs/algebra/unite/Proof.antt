@@ -1,6 +1,7 @@
 -- `unite` merges row by row. The loop's invariant: the rows below x are united, and nothing else has changed (`Through`). The measure is the rows
 -- left. Assumes nothing.
-use Prim.Native.Nat.{_≤_, _*_, _-_, max}
+use mathlib.Core.List.{List}
+use Prim.Native.Nat.{ℕ, _≤_, _*_, _-_, max}
 use Rattle.grid.proofs.RelationLaws.{unit-fits, row-inside, Through, through-none, through-merge, unite-row, through-all, within-union}
 use Rattle.grid.specs.Grid.{firstRows, secondRows}
 use Rattle.k2.specs.PairSets.{union}
@@ -12,19 +13,30 @@ use native.Mathlib.Omega.{arith}
 use Rattle.grid.proofs.algebra.unite.Statement.{statement}
 use Rattle.grid.proofs.algebra.unite.Tie as tie
 
+-- what holds whenever the loop is at its head
+record Loop (cells₀ masks₀ : List ℕ) (n w : ℕ) (cells masks : List ℕ) (x b : ℕ) : Type 0 where
+  inside : x ≤ n
+  b-is : b ≡ x * w
+  cells-as-long : length cells ≡ length cells₀
+  masks-as-long : length masks ≡ length masks₀
+  through : Through n w x (union (firstRows w cells₀ masks₀) (secondRows n w cells₀ masks₀)) cells₀ masks₀ cells masks
+
 abbrev Inv-loop : tie.InvT-loop
-Inv-loop cells₀ masks₀ n w unit x₀ b₀ cells masks x b =
-    (x ≤ n) × (b ≡ x * w) × (length cells ≡ length cells₀) × (length masks ≡ length masks₀)
-    × Through n w x (union (firstRows w cells₀ masks₀) (secondRows n w cells₀ masks₀)) cells₀ masks₀ cells masks
+Inv-loop cells₀ masks₀ n w unit x₀ b₀ cells masks x b = Loop cells₀ masks₀ n w cells masks x b
 
 abbrev μ-loop : tie.MeasureT-loop
 μ-loop cells₀ masks₀ n w unit x₀ b₀ cells masks x b = n - x
+
+-- The places that the needs come back to.
+abbrev loop-of-merge : tie.After-merge Inv-loop μ-loop → tie.At-loop Inv-loop μ-loop
+loop-of-merge p = p .before .before .before .before .before
 
 mul-unit : tie.Need-mul-unit Inv-loop μ-loop
 mul-unit c = omega (arith, unit-fits (c .before .before .args .n) (c .before .before .args .w) (omega arith) (omega arith))
 
 loop-holds : tie.Need-loop-holds Inv-loop μ-loop
-loop-holds c = (omega arith, omega arith, refl, refl, through-none _ _ _ _ _)
+loop-holds c =
+    record { inside = omega arith; b-is = omega arith; cells-as-long = refl; masks-as-long = refl; through = through-none _ _ _ _ _ }
 
 add-merge : tie.Need-add-merge Inv-loop μ-loop
 add-merge c =
@@ -34,7 +46,7 @@ add-merge c =
     omega (
       arith,
       unit-fits (start .args .n) (start .args .w) (omega arith) (omega arith),
-      row-inside (l .x) (start .args .n) (start .args .w) (l .b) (omega arith) (l .inv .1),
+      row-inside (l .x) (start .args .n) (start .args .w) (l .b) (omega arith) (l .inv .b-is),
     )
 
 merge-requires : tie.Need-merge-requires Inv-loop μ-loop
@@ -42,18 +54,18 @@ merge-requires c κs =
     let at-loop = c .before .before .before .before in
     let start = at-loop .before .before .before in
     let l = at-loop .loop in
-    let z = row-inside (l .x) (start .args .n) (start .args .w) (l .b) (omega arith) (l .inv .1) in
-    (omega arith, omega arith, omega (arith, z), omega (arith, z))
+    let z = row-inside (l .x) (start .args .n) (start .args .w) (l .b) (omega arith) (l .inv .b-is) in
+    record { masked = omega arith; narrow = omega arith; to-fits = omega (arith, z); from-fits = omega (arith, z) }
 
 add-b : tie.Need-add-b Inv-loop μ-loop
 add-b c =
-    let at-loop = c .before .before .before .before .before .before .before .before .before in
+    let at-loop = loop-of-merge (c .before .before .before .before) in
     let start = at-loop .before .before .before in
     let l = at-loop .loop in
     omega (
       arith,
       unit-fits (start .args .n) (start .args .w) (omega arith) (omega arith),
-      row-inside (l .x) (start .args .n) (start .args .w) (l .b) (omega arith) (l .inv .1),
+      row-inside (l .x) (start .args .n) (start .args .w) (l .b) (omega arith) (l .inv .b-is),
     )
 
 loop-again : tie.Need-loop-again Inv-loop μ-loop
@@ -64,25 +76,26 @@ loop-again c =
     let a = start .args in
     let l = at-loop .loop in
     let m = after-merge .merge in
-    let z = row-inside (l .x) (a .n) (a .w) (l .b) (omega arith) (l .inv .1) in
-    let T = l .inv .4 in (
-      omega arith,
-      omega (arith, l .inv .1),
-      m .kept .0 ∙ l .inv .2,
-      m .kept .1 .0 ∙ l .inv .3,
-      through-merge (a .n) (a .w) (l .x) (l .b) _ (a .cells .now) (a .masks .now) (l .cells)
-          (l .masks) (omega arith) (l .inv .1) T _ _ _ (m .ensures (inl (omega (arith, z))))
+    let z = row-inside (l .x) (a .n) (a .w) (l .b) (omega arith) (l .inv .b-is) in
+    let T = l .inv .through in
+    record {
+      inside = omega arith;
+      b-is = omega (arith, l .inv .b-is);
+      cells-as-long = m .kept .0 ∙ l .inv .cells-as-long;
+      masks-as-long = m .kept .1 .0 ∙ l .inv .masks-as-long;
+      through = through-merge (a .n) (a .w) (l .x) (l .b) _ (a .cells .now) (a .masks .now) (l .cells)
+          (l .masks) (omega arith) (l .inv .b-is) T _ _ _ (m .ensures (inl (omega (arith, z))))
           (λ y h. unfold union in
           (ap (max (firstRows (a .w) (a .cells .now) (a .masks .now) (l .x) y))
-          (unite-row (a .n) (a .w) (l .x) (l .b) _ (a .cells .now) (a .masks .now) (l .cells) (l .masks) (omega arith) (l .inv .1) T y h))),
-    )
+          (unite-row (a .n) (a .w) (l .x) (l .b) _ (a .cells .now) (a .masks .now) (l .cells) (l .masks) (omega arith) (l .inv .b-is) T y h)));
+    }
 
 returns : tie.Need-returns Inv-loop μ-loop
 returns c =
     let a = c .before .before .before .before .args in
     let l = c .before .loop in
     let e : l .x ≡ a .n = omega arith in
-    through-all (a .n) (a .w) _ (a .cells .now) (a .masks .now) (l .cells) (l .masks) (omega arith) (rw e at (l .inv .4)) ∙ within-union (a .n) _ _
+    through-all (a .n) (a .w) _ (a .cells .now) (a .masks .now) (l .cells) (l .masks) (omega arith) (rw e at (l .inv .through)) ∙ within-union (a .n) _ _
 
 pub unite-spec : {M : Type 1} → statement M
 unite-spec =

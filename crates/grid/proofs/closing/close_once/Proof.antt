@@ -10,6 +10,13 @@ use Rattle.grid.proofs.ClosureLaws.{onward-same, onward-row}
 use Rattle.grid.proofs.closing.close_once.Statement.{statement}
 use Rattle.grid.proofs.closing.close_once.Tie as tie
 
+-- The places that the needs come back to.
+abbrev close-row-of-set-bit : tie.After-set-bit → tie.After-close-row
+close-row-of-set-bit p = let at-cells = p .before .before .before .before .before in at-cells .before
+
+abbrev start-of-bit : tie.After-bit → tie.Start
+start-of-bit p = let at-slice-known = p .before .before .before .before .before in at-slice-known .before
+
 returns : tie.Need-returns
 returns c = (onward-same _ _ _ _ _, λ h. absurd (omega arith))
 
@@ -18,9 +25,9 @@ returns-2 c = (onward-same _ _ _ _ _, λ h. sym (c .before .bit .ensures) ∙ c 
 
 returns-3 : tie.Need-returns-3
 returns-3 c =
-    let after-close-row = c .before .before .before .before .before .before .before .before in
+    let after-close-row = close-row-of-set-bit (c .before .before) in
     let else2 = after-close-row .before .before .before .before in
-    let start = else2 .before .before .before .before .before .before .before in
+    let start = start-of-bit (else2 .before) in
     let a = start .args in
     let s = c .before .before .set-bit .ensures in
     let none : bitAt (a .marks .now) (a .x) ≡ 0 = omega (arith, else2 .before .bit .ensures, else2 .if2 .left, bit-lt (a .marks .now) (a .x)) in (

@@ -19,6 +19,13 @@ Inv-loop cells mask n w x seen closed words b found₀ c₀ found c =
 abbrev μ-loop : tie.MeasureT-loop
 μ-loop cells mask n w x seen closed words b found₀ c₀ found c = w - c
 
+-- The places that the needs come back to.
+abbrev start-of-loop : tie.At-loop Inv-loop μ-loop → tie.Start Inv-loop μ-loop
+start-of-loop p = p .before .before .before .before .before
+
+abbrev loop-of-above : tie.After-above Inv-loop μ-loop → tie.At-loop Inv-loop μ-loop
+loop-of-above p = let at-found-or = p .before .before in at-found-or .before .before .before .before .before
+
 mul-b : tie.Need-mul-b Inv-loop μ-loop
 mul-b c =
     let a = c .before .before .before .args in
@@ -38,10 +45,10 @@ loop-holds c =
 
 -- row x ends before the words do
 row-ends : (c : tie.In-loop Inv-loop μ-loop)
-    → let start = c .before .before .before .before .before .before in
+    → let start = start-of-loop (c .before) in
     let a = start .args in (a .n * a .w ≤ 16384) × (a .x * a .w + a .w ≤ a .n * a .w)
 row-ends c =
-    let start = c .before .before .before .before .before .before in
+    let start = start-of-loop (c .before) in
     let a = start .args in (unit-fits (a .n) (a .w) (omega arith) (omega arith), rows-apart (a .x) (a .n) (a .w) (omega arith))
 
 add-left : tie.Need-add-left Inv-loop μ-loop
@@ -82,7 +89,7 @@ loop-less c = omega (arith, c .above .ensures .low)
 
 loop-again : tie.Need-loop-again Inv-loop μ-loop
 loop-again c =
-    let at-loop = c .before .before .before .before .before .before .before in
+    let at-loop = loop-of-above c in
     let a = at-loop .before .before .before .before .before .args in
     let l = at-loop .loop in
     let L = c .above .ensures in (

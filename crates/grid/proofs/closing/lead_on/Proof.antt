@@ -10,6 +10,10 @@ use Rattle.grid.proofs.SearchLaws.{merged-self, rows-other}
 use Rattle.grid.proofs.closing.lead_on.Statement.{statement}
 use Rattle.grid.proofs.closing.lead_on.Tie as tie
 
+-- The places that the needs come back to.
+abbrev start-of-merge-arg2 : tie.After-merge-arg2 → tie.Start
+start-of-merge-arg2 p = let at-slice-known = p .before .before .before .before .before in at-slice-known .before
+
 returns : tie.Need-returns
 returns c =
     let a = c .before .before .before .args in
@@ -19,18 +23,23 @@ returns c =
 
 mul-merge : tie.Need-mul-merge
 mul-merge c =
-    let a = c .before .before .before .before .before .before .args in
+    let a = start-of-merge-arg2 c .args in
     omega (arith, unit-fits (a .n) (a .w) (omega arith) (omega arith), rows-apart (a .x) (a .n) (a .w) (omega arith))
 
 mul-merge-2 : tie.Need-mul-merge-2
 mul-merge-2 c =
-    let a = c .before .before .before .before .before .before .args in
+    let a = start-of-merge-arg2 c .args in
     omega (arith, unit-fits (a .n) (a .w) (omega arith) (omega arith), rows-apart (a .z) (a .n) (a .w) (omega arith))
 
 merge-requires : tie.Need-merge-requires
 merge-requires c κs =
-    let a = c .before .before .before .before .before .before .args in
-    (omega arith, omega arith, omega (arith, rows-apart (a .x) (a .n) (a .w) (omega arith)), omega (arith, rows-apart (a .z) (a .n) (a .w) (omega arith)))
+    let a = start-of-merge-arg2 c .args in
+    record {
+      masked = omega arith;
+      narrow = omega arith;
+      to-fits = omega (arith, rows-apart (a .x) (a .n) (a .w) (omega arith));
+      from-fits = omega (arith, rows-apart (a .z) (a .n) (a .w) (omega arith));
+    }
 
 returns-2 : tie.Need-returns-2
 returns-2 c =

@@ -12,16 +12,22 @@ use Rattle.grid.specs.Grid.{rowOf}
 use Rattle.grid.proofs.closing.mark.Statement.{statement}
 use Rattle.grid.proofs.closing.mark.Tie as tie
 
+-- The places that the needs come back to.
+abbrev start-of-set-bit : tie.After-set-bit → tie.Start
+start-of-set-bit p = p .before .before .before .before
+
 -- z alone is seen
 returns : tie.Need-returns
-returns c = λ y h.
-    let a = c .before .before .before .before .before .before .before .args in
+returns c =
+    let after-set-bit = c .before .before .before in
+    λ y h.
+    let a = start-of-set-bit after-set-bit .args in
     let none : pick (eqb (a .whole) 1) (rowOf (a .cells .now) (a .z * a .w) (a .mask) y) 0 ≡ 0 = rw (ne-eqb (a .whole) 1 (c .if1 .taken)) refl in
-    ap (λ (f : ℕ → ℕ). f y) (c .before .before .before .set-bit .ensures) ∙ sym (ap (max (put (a .z) 1 (bitAt (a .seen .now)) y)) none ∙ omega arith)
+    ap (λ (f : ℕ → ℕ). f y) (after-set-bit .set-bit .ensures) ∙ sym (ap (max (put (a .z) 1 (bitAt (a .seen .now)) y)) none ∙ omega arith)
 
 mul-add-row : tie.Need-mul-add-row
 mul-add-row c =
-    let start = c .before .before .before .before .before .before .before in
+    let start = start-of-set-bit (c .before .before .before) in
     let a = start .args in omega (arith, start .pre)
 
 returns-2 : tie.Need-returns-2

@@ -1,7 +1,8 @@
 -- `list` goes row by row. The loop's invariant: the pairs of the rows below x are written, and t is their number. The measure is the rows left. It
 -- rests on `rows-next`. Assumes nothing.
+use mathlib.Core.List.{List}
 use mathlib.Core.Path.{_≡_, refl, _∙_}
-use Prim.Native.Nat.{_*_, _-_, _≤_}
+use Prim.Native.Nat.{ℕ, _*_, _-_, _≤_}
 use native.Mathlib.Omega.{arith}
 use borrow.Author.Needs.{needs}
 use lib.ListN.{length}
@@ -13,29 +14,48 @@ use Rattle.grid.proofs.ListingLaws.{rows-none, rows-next, rows-all}
 use Rattle.grid.proofs.listing.list.Statement.{statement}
 use Rattle.grid.proofs.listing.list.Tie as tie
 
+-- what holds whenever the loop is at its head
+record Loop (cells masks : List ℕ) (n w : ℕ) (out₀ out : List ℕ) (t x : ℕ) : Type 0 where
+  inside : x ≤ n
+  t-most : t ≤ x * 1024
+  as-long : length out ≡ length out₀
+  grown : Grown 0 t (rowsPairs (first n w cells masks) n x) out₀ out
+
 abbrev Inv-loop : tie.InvT-loop
-Inv-loop cells masks n w out₀ t₀ x₀ out t x =
-    (x ≤ n) × (t ≤ x * 1024) × (length out ≡ length out₀) × Grown 0 t (rowsPairs (first n w cells masks) n x) out₀ out
+Inv-loop cells masks n w out₀ t₀ x₀ out t x = Loop cells masks n w out₀ out t x
 
 abbrev μ-loop : tie.MeasureT-loop
 μ-loop cells masks n w out₀ t₀ x₀ out t x = n - x
 
+-- The places that the needs come back to.
+abbrev start-of-list-row : tie.After-list-row Inv-loop μ-loop → tie.Start Inv-loop μ-loop
+start-of-list-row p = let at-loop = p .before .before .before .before in at-loop .before .before .before .before
+
+abbrev loop-of-list-row : tie.After-list-row Inv-loop μ-loop → tie.At-loop Inv-loop μ-loop
+loop-of-list-row p = p .before .before .before .before
+
 loop-holds : tie.Need-loop-holds Inv-loop μ-loop
 loop-holds c =
     let a = c .before .before .before .args in
-    (omega arith, omega arith, refl, grown-none 0 _ (a .out .now) (rows-none (first (a .n) (a .w) (a .cells .now) (a .masks .now)) (a .n)))
+    record {
+      inside = omega arith;
+      t-most = omega arith;
+      as-long = refl;
+      grown = grown-none 0 _ (a .out .now) (rows-none (first (a .n) (a .w) (a .cells .now) (a .masks .now)) (a .n));
+    }
 
 loop-again : tie.Need-loop-again Inv-loop μ-loop
 loop-again c =
-    let a = c .before .before .before .before .before .before .before .before .before .before .args in
-    let l = c .before .before .before .before .before .before .loop in
-    let R = c .before .before .list-row in (
-      omega arith,
-      omega (arith, l .inv .1, R .ensures .0),
-      R .kept .1 .1 .1 .1 .1 .0 ∙ l .inv .2,
-      grown-more 0 (l .t) (R .result) _ _ _ (a .out .now) (l .out) _ (l .inv .2) (l .inv .3) (R .ensures .1)
-          (rows-next (a .n) (a .w) (l .x) (a .cells .now) (a .masks .now) (omega arith)),
-    )
+    let a = start-of-list-row (c .before .before) .args in
+    let l = loop-of-list-row (c .before .before) .loop in
+    let R = c .before .before .list-row in
+    record {
+      inside = omega arith;
+      t-most = omega (arith, l .inv .t-most, R .ensures .0);
+      as-long = R .kept .1 .1 .1 .1 .1 .0 ∙ l .inv .as-long;
+      grown = grown-more 0 (l .t) (R .result) _ _ _ (a .out .now) (l .out) _ (l .inv .as-long) (l .inv .grown) (R .ensures .1)
+          (rows-next (a .n) (a .w) (l .x) (a .cells .now) (a .masks .now) (omega arith));
+    }
 
 returns : tie.Need-returns Inv-loop μ-loop
 returns c =
@@ -43,7 +63,7 @@ returns c =
     let l = c .before .loop in
     let F : Cells = first (a .n) (a .w) (a .cells .now) (a .masks .now) in
     grown-all (l .t) _ (a .out .now) (l .out)
-    (grown-to 0 (l .t) _ _ (a .out .now) (l .out) (rows-all (a .n) (l .x) F (omega arith)) (l .inv .3))
+    (grown-to 0 (l .t) _ _ (a .out .now) (l .out) (rows-all (a .n) (l .x) F (omega arith)) (l .inv .grown))
 
 pub list-spec : {M : Type 1} → statement M
 list-spec =

@@ -1,5 +1,6 @@
 -- `list_row` goes over the words in the mask. The loop's invariant: c is one of them or past them all, and the columns of the words before it are
 -- written. The measure is the words left. It rests on `cut-word` and `cut-gap`. Assumes nothing.
+use mathlib.Core.List.{List}
 use mathlib.Core.Path.{_≡_, refl, ap, _∙_}
 use Prim.Native.Nat.{ℕ, _+_, _-_, _*_, _≤_, _<_, min}
 use native.Mathlib.Omega.{arith}
@@ -15,13 +16,22 @@ use Rattle.grid.proofs.ListingLaws.{columns-none, columns-gap, cut-gap,
 use Rattle.grid.proofs.listing.list_row.Statement.{statement}
 use Rattle.grid.proofs.listing.list_row.Tie as tie
 
+-- what holds whenever the loop is at its head
+record Loop (cells : List ℕ) (mask n w x : ℕ) (out₀ : List ℕ) (t : ℕ) (out : List ℕ) (s c : ℕ) : Type 0 where
+  in-mask : c < 64 → digit mask c ≡ 1
+  s-most : s ≤ t + min c w * 64
+  as-long : length out ≡ length out₀
+  grown : Grown t s (columns (cutRow n (rowOf cells (x * w) mask)) (x * 1024) (c * 64)) out₀ out
+
 abbrev Inv-loop : tie.InvT-loop
-Inv-loop cells mask n w x out₀ t words b s₀ c₀ out s c =
-    (c < 64 → digit mask c ≡ 1) × (s ≤ t + min c w * 64) × (length out ≡ length out₀)
-    × Grown t s (columns (cutRow n (rowOf cells (x * w) mask)) (x * 1024) (c * 64)) out₀ out
+Inv-loop cells mask n w x out₀ t words b s₀ c₀ out s c = Loop cells mask n w x out₀ t out s c
 
 abbrev μ-loop : tie.MeasureT-loop
 μ-loop cells mask n w x out₀ t words b s₀ c₀ out s c = w - c
+
+-- The places that the needs come back to.
+abbrev start-of-loop : tie.At-loop Inv-loop μ-loop → tie.Start Inv-loop μ-loop
+start-of-loop p = p .before .before .before .before
 
 mul-b : tie.Need-mul-b Inv-loop μ-loop
 mul-b c =
@@ -36,14 +46,15 @@ loop-holds c =
     let a = c .before .before .before .args in
     let L = c .lowest .ensures in
     let k = c .lowest .result in
-    let f : ℕ → ℕ = cutRow (a .n) (rowOf (a .cells .now) (a .x * a .w) (a .mask)) in (
-      L .hit,
-      omega arith,
-      refl,
-      grown-none (a .t) _ (a .out .now)
+    let f : ℕ → ℕ = cutRow (a .n) (rowOf (a .cells .now) (a .x * a .w) (a .mask)) in
+    record {
+      in-mask = L .hit;
+      s-most = omega arith;
+      as-long = refl;
+      grown = grown-none (a .t) _ (a .out .now)
           (columns-gap f (a .x * 1024) 0 (k * 64) (omega arith) (cut-gap (a .n) (a .w) (a .x * a .w) (a .mask) (a .x) (a .cells .now) 0 k (L .gap))
-          ∙ columns-none f (a .x * 1024)),
-    )
+          ∙ columns-none f (a .x * 1024));
+    }
 
 add-cut : tie.Need-add-cut Inv-loop μ-loop
 add-cut c =
@@ -54,10 +65,10 @@ mul-cut : tie.Need-mul-cut Inv-loop μ-loop
 mul-cut c = let a = c .before .before .before .before .before .args in omega (arith, rows-apart (a .x) (a .n) (a .w) (omega arith))
 
 shared-slice-read-cut : tie.Need-shared-slice-read-cut Inv-loop μ-loop
-shared-slice-read-cut c = let a = c .before .before .before .before .before .before .args in omega (arith, rows-apart (a .x) (a .n) (a .w) (omega arith))
+shared-slice-read-cut c = let a = start-of-loop (c .before .before) .args in omega (arith, rows-apart (a .x) (a .n) (a .w) (omega arith))
 
 list-word-requires : tie.Need-list-word-requires Inv-loop μ-loop
-list-word-requires c κs = let i = c .before .before .before .before .loop .inv .1 in (omega arith, omega (arith, i))
+list-word-requires c κs = let i = c .before .before .before .before .loop .inv .s-most in (omega arith, omega (arith, i))
 
 loop-less : tie.Need-loop-less Inv-loop μ-loop
 loop-less c = omega (arith, c .above .ensures .low)
@@ -75,25 +86,26 @@ loop-again c =
     let W = after-list-word .list-word in
     let f : ℕ → ℕ = cutRow (a .n) (rowOf (a .cells .now) (a .x * a .w) (a .mask)) in
     let cl : l .c < a .w = omega arith in
-    let at : (l .c + 1) * 64 ≡ l .c * 64 + 64 = omega arith in (
-      L .hit,
-      omega (arith, L .low, l .inv .1, W .ensures .0),
-      W .kept .1 .1 .0 ∙ l .inv .2,
-      grown-more (a .t) (l .s) (W .result) _ _ _ (a .out .now) (l .out) _ (l .inv .2) (l .inv .3) (W .ensures .1)
+    let at : (l .c + 1) * 64 ≡ l .c * 64 + 64 = omega arith in
+    record {
+      in-mask = L .hit;
+      s-most = omega (arith, L .low, l .inv .s-most, W .ensures .0);
+      as-long = W .kept .1 .1 .0 ∙ l .inv .as-long;
+      grown = grown-more (a .t) (l .s) (W .result) _ _ _ (a .out .now) (l .out) _ (l .inv .as-long) (l .inv .grown) (W .ensures .1)
           (columns-gap f (a .x * 1024) ((l .c + 1) * 64) (k * 64) (omega (arith, L .low))
           (cut-gap (a .n) (a .w) (a .x * a .w) (a .mask) (a .x) (a .cells .now) (l .c + 1) k (L .gap))
           ∙ ap (columns f (a .x * 1024)) at
           ∙ cut-word (a .n) (a .w) (a .x * a .w) (a .mask) (a .x) (a .cells .now) (l .c)
-          (after-cut .cut .result) (l .inv .0 (omega arith)) (after-cut .cut .ensures) (a .x * 1024)),
-    )
+          (after-cut .cut .result) (l .inv .in-mask (omega arith)) (after-cut .cut .ensures) (a .x * 1024));
+    }
 
 returns : tie.Need-returns Inv-loop μ-loop
 returns c =
     let a = c .before .before .before .before .before .args in
     let l = c .before .loop in (
-      omega (arith, l .inv .1),
+      omega (arith, l .inv .s-most),
       grown-to (a .t) (l .s) _ _ (a .out .now) (l .out)
-          (cut-all (a .n) (a .w) (a .x * a .w) (a .mask) (a .x) (a .cells .now) (l .c) (a .x * 1024) (omega arith)) (l .inv .3),
+          (cut-all (a .n) (a .w) (a .x * a .w) (a .mask) (a .x) (a .cells .now) (l .c) (a .x * 1024) (omega arith)) (l .inv .grown),
     )
 
 pub list-row-spec : {M : Type 1} → statement M

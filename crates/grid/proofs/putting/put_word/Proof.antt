@@ -16,14 +16,21 @@ use Rattle.grid.proofs.PairLaws.{letter, letter-in, letter-out, one-tur
 use Rattle.grid.proofs.putting.put_word.Statement.{statement}
 use Rattle.grid.proofs.putting.put_word.Tie as tie
 
+-- The places that the needs come back to.
+abbrev start-of-has-label : tie.After-has-label → tie.Start
+start-of-has-label p = p .before .before .before .before .before
+
+abbrev has-label2-of-put-pair2 : tie.After-put-pair2 → tie.After-has-label2
+has-label2-of-put-pair2 p = p .before .before .before .before
+
 -- the link is in forward
-forward : (c : tie.Joined1) → let a = c .before .before .before .before .before .before .args in
+forward : (c : tie.Joined1) → let a = start-of-has-label (c .before) .args in
     (length (c .if1 .cells) ≡ length (a .cells .now)) × (length (c .if1 .masks) ≡ length (a .masks .now))
     × (first (a .n) (a .w) (c .if1 .cells) (c .if1 .masks) ≡ union
     (first (a .n) (a .w) (a .cells .now) (a .masks .now)) (within (a .n) (letter (a .forward) (a .word))))
 unfolding linkPair
 forward c =
-    let a = c .before .before .before .before .before .before .args in
+    let a = start-of-has-label (c .before) .args in
     let A : Cells = first (a .n) (a .w) (a .cells .now) (a .masks .now) in
     let p = c .before .before .pair-of in
     let r = c .before .has-label .ensures ∙ ap (λ (k : ℕ). eqb (digit (a .forward) k) 1) (c .before .before .before .label-of .ensures) in
@@ -45,7 +52,9 @@ put-pair-requires-2 : tie.Need-put-pair-requires-2
 put-pair-requires-2 c κs = let f = forward (c .before .before .before .before) in omega (arith, f .0, f .1)
 
 same-length : tie.Need-same-length
-same-length c = c .before .before .before .before .put-pair2 .kept .0 ∙ forward (c .before .before .before .before .before .before .before .before .before) .0
+same-length c =
+    let after-put-pair2 = c .before .before .before .before in
+    after-put-pair2 .put-pair2 .kept .0 ∙ forward (has-label2-of-put-pair2 after-put-pair2 .before) .0
 
 same-length-2 : tie.Need-same-length-2
 same-length-2 c =

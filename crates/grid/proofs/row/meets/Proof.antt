@@ -18,6 +18,13 @@ Inv-loop cells mask b w row words c₀ c = (c < 64 → digit mask c ≡ 1) × Ga
 abbrev μ-loop : tie.MeasureT-loop
 μ-loop cells mask b w row words c₀ c = w - c
 
+-- The places that the needs come back to.
+abbrev start-of-loop : tie.At-loop Inv-loop μ-loop → tie.Start Inv-loop μ-loop
+start-of-loop p = p .before .before .before .before
+
+abbrev start-of-above : tie.After-above Inv-loop μ-loop → tie.Start Inv-loop μ-loop
+start-of-above p = start-of-loop (p .before .before .before .before .before)
+
 lowest-requires : tie.Need-lowest-requires Inv-loop μ-loop
 lowest-requires c κs = tt
 
@@ -29,8 +36,9 @@ loop-holds c =
 
 returns : tie.Need-returns Inv-loop μ-loop
 returns c =
-    let a = c .before .before .before .before .before .before .before .before .args in
-    let l = c .before .before .before .before .loop in
+    let at-loop = c .before .before .before .before in
+    let a = start-of-loop at-loop .args in
+    let l = at-loop .loop in
     both-some (a .cells .now) (a .b) (a .mask) (a .row .now) (l .c) (a .w * 64) (l .inv .0 (omega arith))
     (c .before .before .shared-slice-known3 .given (a .b + l .c) .fits) (c .if1 .taken)
 
@@ -39,7 +47,7 @@ loop-less c = omega (arith, c .above .ensures .low)
 
 loop-again : tie.Need-loop-again Inv-loop μ-loop
 loop-again c =
-    let a = c .before .before .before .before .before .before .before .before .before .args in
+    let a = start-of-above c .args in
     let l = c .before .before .before .before .before .loop in
     let L = c .above .ensures in
     let k = c .above .result in

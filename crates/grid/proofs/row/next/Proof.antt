@@ -11,6 +11,10 @@ use native.Mathlib.Omega.{arith}
 use Rattle.grid.proofs.row.next.Statement.{statement}
 use Rattle.grid.proofs.row.next.Tie as tie
 
+-- The places that the needs come back to.
+abbrev start-of-lowest : tie.After-lowest → tie.Start
+start-of-lowest p = let at-shared-slice-known = p .before .before .before .before .before in at-shared-slice-known .before
+
 returns : tie.Need-returns
 returns c =
     let a = c .before .before .args in
@@ -18,7 +22,7 @@ returns c =
 
 add-result : tie.Need-add-result
 add-result c =
-    let a = c .before .before .before .before .before .before .args in
+    let a = start-of-lowest c .args in
     let f = c .before .before .shared-slice-known2 .given (a .b + a .y / 64) .fits in
     let h = lowest-some _ _ (lt-of-le-of-lt (shr-le _ (a .y % 64)) f) (c .before .if3 .taken) (c .lowest .ensures) in
     omega (arith, h)
@@ -26,7 +30,7 @@ add-result c =
 returns-2 : tie.Need-returns-2
 unfolding digit
 returns-2 c =
-    let a = c .before .before .before .before .before .before .args in
+    let a = start-of-lowest c .args in
     let f = c .before .before .shared-slice-known2 .given (a .b + a .y / 64) .fits in
     let h = lowest-some _ _ (lt-of-le-of-lt (shr-le _ (a .y % 64)) f) (c .before .if3 .taken) (c .lowest .ensures) in
     found (a .cells .now) (a .b) (a .mask) (a .y) (a .w) (a .y / 64) (a .y) (c .lowest .result)

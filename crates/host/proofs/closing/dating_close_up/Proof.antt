@@ -11,7 +11,8 @@ returns c = close-foreign _ _ (load-none (c .before .before .load .ensures) (c .
 
 returns-2 : tie.Need-returns-2
 returns-2 c =
-    let after-close-up = c .before .before .before .before .before .before in
+    let earlier = c .before .before .before .before .before in
+    let after-close-up = earlier .before in
     let else1 = after-close-up .before .before .before in
     close-kept (load-some (else1 .before .before .load .ensures) (else1 .before .number-of .ensures) (else1 .if1 .left))
     (after-close-up .close-up .ensures) (c .before .before .keep .ensures)

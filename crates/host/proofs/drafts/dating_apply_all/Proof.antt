@@ -19,11 +19,15 @@ returns c =
     (c .told-refusal .ensures)
 
 -- the words were loaded
-loaded : (c : tie.Else1) → Keeps (c .before .before .before .before .before .before .args .state .now) (c .before .before .load .result .register)
+loaded : (c : tie.Else1)
+    → let earlier = c .before .before .before .before .before in
+    Keeps (earlier .before .args .state .now) (c .before .before .load .result .register)
 loaded c = load-some (c .before .before .load .ensures) (c .before .number-of .ensures) (c .if1 .left)
 
 -- and the calls are not too many
-short : (c : tie.Else2) → length (c .before .before .before .before .before .before .before .args .calls .now) < pastCounts
+short : (c : tie.Else2)
+    → let earlier = c .before .before .before .before .before in
+    length (earlier .before .before .args .calls .now) < pastCounts
 short c = omega (arith, c .if2 .left)
 
 returns-2 : tie.Need-returns-2

@@ -13,7 +13,8 @@ returns : tie.Need-returns
 unfolding number
 returns c =
     let q = c .before .before .before .store .ensures .refused (not-true _ (c .if1 .taken)) in
-    lost (c .before .before .before .before .before .before .enum-told .given .1) refl (q .0) (q .1)
+    let earlier = c .before .before .before .before .before in
+    lost (earlier .before .enum-told .given .1) refl (q .0) (q .1)
 
 returns-2 : tie.Need-returns-2
 returns-2 c = let g = c .before .answer .given .1 in refused (λ d. refused-done (sym g ∙ d)) (sym (ap answerNumber g)) refl
@@ -21,7 +22,8 @@ returns-2 c = let g = c .before .answer .given .1 in refused (λ d. refused-done
 returns-3 : tie.Need-returns-3
 returns-3 c =
     let q = c .before .before .before .store .ensures .done (not-false _ (c .if1 .left)) in
-    kept (c .before .before .before .before .before .before .enum-told .given .1) refl (q .0) (q .1)
+    let earlier = c .before .before .before .before .before in
+    kept (earlier .before .enum-told .given .1) refl (q .0) (q .1)
 
 pub keep-spec : {M : Type 1} → statement M
 keep-spec =

@@ -8,7 +8,8 @@ use Rattle.host.proofs.previews.foresee.Tie as tie
 returns : tie.Need-returns
 returns c =
     let after-edit-in = c .before .before .before .before in
-    let a = after-edit-in .before .before .before .before .before .before .args in
+    let earlier = after-edit-in .before .before .before .before .before in
+    let a = earlier .before .args in
     foreseen-refused (after-edit-in .edit-in .ensures) (a .text .now) (length (a .work .now)) (c .before .if1 .taken) (c .told-refusal .ensures)
 
 pairs-over-as-trees-requires : tie.Need-pairs-over-as-trees-requires
@@ -24,7 +25,8 @@ returns-2 c =
     let after-links-in = after-pairs .before .before .before in
     let else1 = after-links-in .before .before .before in
     let after-edit-in = else1 .before .before .before in
-    let a = after-edit-in .before .before .before .before .before .before .args in
+    let earlier = after-edit-in .before .before .before .before .before in
+    let a = earlier .before .args in
     foreseen-asked (after-edit-in .edit-in .ensures) (else1 .if1 .left) (after-links-in .before .marks-in .ensures) (after-links-in .links-in .ensures)
     (a .text .now) (length (a .work .now)) (after-pairs .pairs-over-as-trees .ensures) (c .told .ensures)
 

@@ -19,7 +19,8 @@ returns c =
 
 -- the words taken are as many as were found to fit
 long : (c : tie.After-fitting)
-    → length (take (c .fitting .result) (c .before .before .before .before .before .before .args .words .now)) ≡ c .fitting .result
+    → let earlier = c .before .before .before .before .before in
+    length (take (c .fitting .result) (earlier .before .args .words .now)) ≡ c .fitting .result
 long c = length-take-le _ _ (c .fitting .ensures .0)
 
 slice-aggregate-copy-u32 : tie.Need-slice-aggregate-copy-u32

@@ -9,9 +9,11 @@ use Rattle.lines.proofs.frames.put_frame.Tie as tie
 
 returns : tie.Need-returns
 returns c =
-    let after-put-text2 = c .before .before .before .before .before .before in
+    let earlier = c .before .before .before .before .before in
+    let after-put-text2 = earlier .before in
     let after-put-text = after-put-text2 .before .before .before .before in
-    let start = after-put-text .before .before .before .before .before .before in
+    let earlier′ = after-put-text .before .before .before .before .before in
+    let start = earlier′ .before in
     let p = after-put-text .put-text in
     let q = after-put-text2 .put-text2 in
     wrote-as (frame-parts (start .args .kind) (now (start .args .head)) (now (start .args .text)) (omega arith))

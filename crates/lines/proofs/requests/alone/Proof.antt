@@ -17,7 +17,8 @@ returns c =
 returns-2 : tie.Need-returns-2
 unfolding sent
 returns-2 c =
-    let t = c .before .before .before .before .before .before in
+    let earlier = c .before .before .before .before .before in
+    let t = earlier .before in
     let a = t .before .before .before .args in
     wrote-as (ap sent (sym (alone-is (a .kind) (now (a .s)) (t .if1 .left)))) (c .before .before .put-frame .ensures)
 

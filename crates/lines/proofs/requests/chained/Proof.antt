@@ -13,7 +13,7 @@ use Rattle.lines.proofs.requests.chained.Tie as tie
 
 -- where every word is read: the start, and the words
 abbrev start : tie.After-text → tie.Start
-start c = c .before .before .before .before .before .before .before
+start c = let earlier = c .before .before .before .before .before in earlier .before .before
 
 as-read : (c : tie.After-text)
     → let u = c .before in

@@ -32,7 +32,8 @@ cast-t14 c = omega (arith, label-under _ _ (c .before .before .before .label .en
 returns-3 : tie.Need-returns-3
 unfolding sent
 returns-3 c =
-    let else2 = c .before .before .before .before .before .before in
+    let earlier = c .before .before .before .before .before in
+    let else2 = earlier .before in
     let after-label = else2 .before .before .before in
     let start = after-label .before .before .before in
     let s = now (start .args .s) in

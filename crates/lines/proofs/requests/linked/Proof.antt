@@ -13,7 +13,7 @@ use Rattle.lines.proofs.requests.linked.Tie as tie
 
 -- where every word is read: the start, and the words
 abbrev start : tie.After-rest3 → tie.Start
-start c = c .before .before .before .before .before .before .before .before
+start c = let earlier = c .before .before .before .before .before in earlier .before .before .before
 
 as-read : (c : tie.After-rest3)
     → let y = c .before in
@@ -71,7 +71,8 @@ returns-4 c =
 
 cast-put-link-2 : tie.Need-cast-put-link-2
 cast-put-link-2 c =
-    let l = c .before .before .before .before .before .before .before in
+    let earlier = c .before .before .before .before .before in
+    let l = earlier .before .before in
     omega (arith, label-under (word (now (l .before .rest .result))) (l .label .result) (l .label .ensures) (c .before .before .if2 .left))
 
 returns-5 : tie.Need-returns-5

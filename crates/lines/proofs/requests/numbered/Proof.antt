@@ -19,7 +19,8 @@ returns c =
 
 returns-2 : tie.Need-returns-2
 returns-2 c =
-    let u = c .before .before .before .before .before .before in
+    let earlier = c .before .before .before .before .before in
+    let u = earlier .before in
     let n = u .before in
     let start = n .before .before .before in
     let s = now (start .args .s) in
@@ -29,7 +30,8 @@ returns-2 c =
 returns-3 : tie.Need-returns-3
 unfolding sent
 returns-3 c =
-    let u = c .before .before .before .before .before .before in
+    let earlier = c .before .before .before .before .before in
+    let u = earlier .before in
     let n = u .before in
     let start = n .before .before .before in
     let s = now (start .args .s) in

@@ -56,7 +56,8 @@ returns-7 c =
 returns-8 : tie.Need-returns-8
 unfolding argued sent
 returns-8 c =
-    let told = c .before .before .before .before .before .before in
+    let earlier = c .before .before .before .before .before in
+    let told = earlier .before in
     wrote-as (by-shape (told .before .before) (told .enum-told8 .given .1)) (c .before .before .put-frame .ensures)
 
 pub request-spec : {M : Type 1} → statement M

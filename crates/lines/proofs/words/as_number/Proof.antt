@@ -32,13 +32,15 @@ returns-2 c =
 returns-3 : tie.Need-returns-3 Inv-loop μ-loop
 returns-3 c =
     let l = c .before .before .before .before .loop in
-    let w = now (c .before .before .before .before .before .before .args .w) in
+    let earlier = c .before .before .before .before .before in
+    let w = now (earlier .before .args .w) in
     sym (number-above (l .value) w (l .i) (omega arith) (omega arith) (omega arith)) ∙ l .inv .left ∙ number-begun w (omega arith)
 
 returns-4 : tie.Need-returns-4 Inv-loop μ-loop
 returns-4 c =
     let l = c .before .before .before .before .before .loop in
-    let w = now (c .before .before .before .before .before .before .before .args .w) in
+    let earlier = c .before .before .before .before .before in
+    let w = now (earlier .before .before .args .w) in
     let d = getD w (l .i) 0 in
     sym (number-over (l .value * 10 + (d - 48)) (drop (l .i + 1) w) (c .if4 .taken))
     ∙ number-next (l .value) w (l .i) (omega arith) (omega arith) (omega arith) ∙ l .inv .left ∙ number-begun w (omega arith)
@@ -46,7 +48,8 @@ returns-4 c =
 loop-again : tie.Need-loop-again Inv-loop μ-loop
 loop-again c =
     let l = c .before .before .before .before .before .loop in
-    let w = now (c .before .before .before .before .before .before .before .args .w) in
+    let earlier = c .before .before .before .before .before in
+    let w = now (earlier .before .before .args .w) in
     record {
       small = omega arith;
       inside = omega arith;

@@ -28,14 +28,16 @@ slice-aggregate-result c = sym (length-take-le _ _ (omega arith))
 
 returns : tie.Need-returns Inv-loop μ-loop
 returns c =
-    let s = now (c .before .before .before .before .before .before .before .args .s) in
+    let earlier = c .before .before .before .before .before in
+    let s = now (earlier .before .before .args .s) in
     let l = c .before .before .before .before .before .loop in
     let b : blank (getD s (l .n - 1) 0) ≡ false = sym (c .before .before .is-blank .ensures) ∙ not-true _ (c .before .if1 .taken) in
     sym (trim-at s (l .n) (omega arith) (omega arith) b) ∙ l .inv .left
 
 loop-again : tie.Need-loop-again Inv-loop μ-loop
 loop-again c =
-    let s = now (c .before .before .before .before .before .before .args .s) in
+    let earlier = c .before .before .before .before .before in
+    let s = now (earlier .before .args .s) in
     let l = c .before .before .before .before .loop in
     let b : blank (getD s (l .n - 1) 0) ≡ true = sym (c .before .is-blank .ensures) ∙ not-false _ (c .if1 .left) in
     record { inside = omega arith; left = sym (trim-blank s (l .n) (omega arith) (omega arith) b) ∙ l .inv .left }

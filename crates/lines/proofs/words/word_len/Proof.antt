@@ -23,14 +23,16 @@ loop-holds c = record { inside = omega arith; left = omega arith }
 
 returns : tie.Need-returns Inv-loop μ-loop
 returns c =
-    let s = now (c .before .before .before .before .before .before .args .s) in
+    let earlier = c .before .before .before .before .before in
+    let s = now (earlier .before .args .s) in
     let l = c .before .before .before .before .loop in
     let b : blank (getD s (l .i) 0) ≡ true = sym (c .before .is-blank .ensures) ∙ c .if1 .taken in
     omega (arith, l .inv .left, word-end s (l .i) (omega arith) b)
 
 loop-again : tie.Need-loop-again Inv-loop μ-loop
 loop-again c =
-    let s = now (c .before .before .before .before .before .before .args .s) in
+    let earlier = c .before .before .before .before .before in
+    let s = now (earlier .before .args .s) in
     let l = c .before .before .before .before .loop in
     let b : blank (getD s (l .i) 0) ≡ false = sym (c .before .is-blank .ensures) ∙ c .if1 .left in
     record { inside = omega arith; left = omega (arith, l .inv .left, word-more s (l .i) (omega arith) b) }

@@ -53,7 +53,8 @@ descend-μ-loop tree before h list sense rows₀ next m i₀ rows i = m - i
 
 descend-leaves-requires : (t : ℕ) → descend-lts.Need-leaves-requires (descend-calls t) (descend-at t) descend.Post descend-Inv-loop descend-μ-loop
 descend-leaves-requires t c κs =
-    let start = c .before .before .before .before .before .before in
+    let earlier = c .before .before .before .before .before in
+    let start = earlier .before in
     let w = start .pre .1 in
     (record { inside = w .1 .inside; few = w .1 .few; fit = rw (c .before .if1 .taken) at (w .1 .fit) }, w .0 .sense-is, w .2)
 
@@ -70,7 +71,8 @@ descend-slice-aggregate-spread t c = search needs
 
 descend-spread-requires : (t : ℕ) → descend-lts.Need-spread-requires (descend-calls t) (descend-at t) descend.Post descend-Inv-loop descend-μ-loop
 descend-spread-requires t c κs =
-    let w = c .before .before .before .before .before .before .pre .1 in (
+    let earlier = c .before .before .before .before .before in
+    let w = earlier .before .pre .1 in (
       record {
         level-least = omega arith;
         level-most = w .0 .level-most;
@@ -85,7 +87,8 @@ descend-spread-requires t c κs =
 
 descend-loop-holds : (t : ℕ) → descend-lts.Need-loop-holds (descend-calls t) (descend-at t) descend.Post descend-Inv-loop descend-μ-loop
 descend-loop-holds t c =
-    let a = c .before .before .before .before .before .before .before .before .args in
+    let earlier = c .before .before .before .before .before in
+    let a = earlier .before .before .before .args in
     (omega arith, refl, λ s u e n. e ∙ ap flat (squares-none (a .h - 1) _ 0 u s))
 
 descend-taken-requires : (t : ℕ) → descend-lts.Need-taken-requires (descend-calls t) (descend-at t) descend.Post descend-Inv-loop descend-μ-loop
@@ -101,7 +104,8 @@ descend-slice-aggregate-descend t c = search needs
 descend-descend-requires : (t : ℕ) → descend-lts.Need-descend-requires (descend-calls t) (descend-at t) descend.Post descend-Inv-loop descend-μ-loop
 descend-descend-requires t c κs =
     let at-loop = c .before .before .before .before in
-    let start = at-loop .before .before .before .before .before .before .before .before .before in
+    let earlier = at-loop .before .before .before .before .before in
+    let start = earlier .before .before .before .before in
     let w = start .pre .1 in
     let l = at-loop .loop in
     let p = at-loop .before .before .spread in
@@ -138,7 +142,8 @@ descend-loop-again : (t : ℕ) → descend-lts.Need-loop-again (descend-calls t)
 descend-loop-again t c =
     let after-taken = c .before .before .before .before .before in
     let after-spread = after-taken .before .before .before .before in
-    let start = after-spread .before .before .before .before .before .before .before in
+    let earlier = after-spread .before .before .before .before .before in
+    let start = earlier .before .before in
     let a = start .args in
     let l = after-taken .before .before .loop in
     let p = after-spread .spread in
@@ -161,7 +166,8 @@ descend-returns-2 : (t : ℕ) → descend-lts.Need-returns-2 (descend-calls t) (
 descend-returns-2 t c =
     let after-spread = c .before .before .before in
     let l = c .before .loop in
-    let a = after-spread .before .before .before .before .before .before .before .args in
+    let earlier = after-spread .before .before .before .before .before in
+    let a = earlier .before .before .args in
     let z : l .i ≡ after-spread .spread .result = omega arith in
     λ s u e n. l .inv .2 s u e (after-spread .spread .ensures .2 u n .0) ∙ rw z (ap (λ (g : Cells). flat (union s g)) (after-spread .spread .ensures .2 u n .1))
 

@@ -36,9 +36,10 @@ add-n c =
 
 loop-again : tie.Need-loop-again Inv-loop μ-loop
 loop-again c =
-    let l = c .before .before .before .loop in
-    let ws = c .before .before .before .before .args .tree .now in
-    let before₀ = c .before .before .before .before .args .before .now in
+    let at-loop = c .before .before .before in
+    let l = at-loop .loop in
+    let ws = at-loop .before .args .tree .now in
+    let before₀ = at-loop .before .args .before .now in
     let f = c .shared-slice-known .given (l .i) .fits in
     let less : l .i < length ws = omega arith in
     let at : List ℕ → Type 0 = λ (b : List ℕ). Counting eachBlock ws before₀ b (l .n + ones (getD ws (l .i) 0)) (l .i + 1) in

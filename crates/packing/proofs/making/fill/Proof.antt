@@ -32,10 +32,14 @@ Inv-loop2 rows g base heap₀ side r c₀ heap c = RowFilled rows g base heap₀
 abbrev μ-loop2 : tie.MeasureT-loop2
 μ-loop2 rows g base heap₀ side r c₀ heap c = 128 - c
 
+-- what holds whenever the loop is at its head
+record Loop (rows : List ℕ) (g base : ℕ) (heap₀ : List ℕ) (side : ℕ) (heap : List ℕ) (r : ℕ) : Type 0 where
+  inside : r ≤ side
+  as-long : length heap ≡ length heap₀
+  filled : (a : Cells) → IsSet (2 ^ (g + 3)) a → bitAt rows ≡ flat a → bitAt heap₀ ≡ none → bitAt heap ≡ raised base (cells (g + 3) (blocksTo (r * 128) a))
+
 abbrev Inv-loop : tie.InvT-loop
-Inv-loop rows g base heap₀ side r₀ heap r =
-    (r ≤ side) × (length heap ≡ length heap₀)
-    × ((a : Cells) → IsSet (2 ^ (g + 3)) a → bitAt rows ≡ flat a → bitAt heap₀ ≡ none → bitAt heap ≡ raised base (cells (g + 3) (blocksTo (r * 128) a)))
+Inv-loop rows g base heap₀ side r₀ heap r = Loop rows g base heap₀ side heap r
 
 abbrev μ-loop : tie.MeasureT-loop
 μ-loop rows g base heap₀ side r₀ heap r = side - r
@@ -49,7 +53,7 @@ few c = rw (side c) (pow-mono {j = 7} (c .pre .levels))
 loop-holds : tie.Need-loop-holds Inv-loop2 μ-loop2 Inv-loop μ-loop
 loop-holds c =
     let a = c .before .before .args in
-    (omega arith, refl, λ s is e h. h ∙ sym (to-none (a .base) (a .g + 3) s))
+    record { inside = omega arith; as-long = refl; filled = λ s is e h. h ∙ sym (to-none (a .base) (a .g + 3) s) }
 
 loop2-holds : tie.Need-loop2-holds Inv-loop2 μ-loop2 Inv-loop μ-loop
 loop2-holds c =
@@ -71,7 +75,7 @@ fill-eight-requires c κs =
         levels = p .levels;
         rows-are = p .rows-are;
         base-most = p .base-most;
-        room = omega (arith, at-loop2 .loop2 .inv .as-long, at-loop2 .before .before .loop .inv .1);
+        room = omega (arith, at-loop2 .loop2 .inv .as-long, at-loop2 .before .before .loop .inv .as-long);
       },
       record { row = rw e at (at-loop2 .before .loop-test .taken); column = omega (arith, few start); eights = at-loop2 .loop2 .inv .eights },
     )
@@ -105,14 +109,15 @@ loop-again c =
     let l = at-loop .loop in
     let k = c .before .loop2 in
     let a = start .args in
-    let p = start .pre in (
-      omega arith,
-      k .inv .as-long ∙ l .inv .1,
-      λ s is e h.
-          k .inv .filled s is e (l .inv .2 s is e h)
+    let p = start .pre in
+    record {
+      inside = omega arith;
+      as-long = k .inv .as-long ∙ l .inv .as-long;
+      filled = λ s is e h.
+          k .inv .filled s is e (l .inv .filled s is e h)
           ∙ ap (λ (t : Cells). raised (a .base) (cells (a .g + 3) t))
-          (to-row (a .g) (p .levels) s is (l .r) (k .c) (rw (side start) at (c .loop2-test .left)) (k .inv .inside)),
-    )
+          (to-row (a .g) (p .levels) s is (l .r) (k .c) (rw (side start) at (c .loop2-test .left)) (k .inv .inside));
+    }
 
 returns : tie.Need-returns Inv-loop2 μ-loop2 Inv-loop μ-loop
 returns c =
@@ -120,7 +125,7 @@ returns c =
     let l = c .before .loop in
     let a = start .args in
     let x : l .r ≡ 2 ^ a .g = omega (arith, side start) in
-    λ s is e h. l .inv .2 s is e h ∙ rw x (ap (λ (t : Cells). raised (a .base) (cells (a .g + 3) t)) (to-all (a .g) (start .pre .levels) s is))
+    λ s is e h. l .inv .filled s is e h ∙ rw x (ap (λ (t : Cells). raised (a .base) (cells (a .g + 3) t)) (to-all (a .g) (start .pre .levels) s is))
 
 pub fill-spec : {M : Type 1} → statement M
 fill-spec =

@@ -1,7 +1,7 @@
 -- `place` takes the digits of row and column from the highest on. The loop's invariant: z and the place of what is left make the whole place.
 -- The measure is the digits left. It rests on `place-step`. Assumes nothing.
 use mathlib.Core.Path.{_≡_, _∙_}
-use Prim.Native.Nat.{_+_, _-_, _*_, _%_, _^_, _≤_}
+use Prim.Native.Nat.{ℕ, _+_, _-_, _*_, _%_, _^_, _≤_}
 use native.Mathlib.Nat.{mod-lt}
 use native.Mathlib.Omega.{arith}
 use lib.Pow.{pow-pos}
@@ -11,21 +11,27 @@ use Rattle.packing.proofs.PlaceLaws.{place-turn, place-small}
 use Rattle.packing.proofs.making.morton_place.Statement.{statement}
 use Rattle.packing.proofs.making.morton_place.Tie as tie
 
+-- what holds whenever the loop is at its head
+record Loop (h x y z k : ℕ) : Type 0 where
+  inside : k ≤ h
+  placed : place h (x % 2 ^ h) (y % 2 ^ h) ≡ z * 4 ^ k + place k (x % 2 ^ k) (y % 2 ^ k)
+  z-most : z ≤ 1048576
+
 abbrev Inv-loop : tie.InvT-loop
-Inv-loop h x y z₀ k₀ z k = (k ≤ h) × (place h (x % 2 ^ h) (y % 2 ^ h) ≡ z * 4 ^ k + place k (x % 2 ^ k) (y % 2 ^ k)) × (z ≤ 1048576)
+Inv-loop h x y z₀ k₀ z k = Loop h x y z k
 
 abbrev μ-loop : tie.MeasureT-loop
 μ-loop h x y z₀ k₀ z k = k
 
 loop-holds : tie.Need-loop-holds Inv-loop μ-loop
-loop-holds c = (omega arith, omega arith, omega arith)
+loop-holds c = record { inside = omega arith; placed = omega arith; z-most = omega arith }
 
 loop-again : tie.Need-loop-again Inv-loop μ-loop
 loop-again c =
     let l = c .before .loop in
     let a = c .before .before .args in
-    let t = l .inv .1 ∙ place-turn (l .k) (a .x) (a .y) (l .z) (omega arith) in
-    (omega arith, t, place-small (a .h) (a .x) (a .y) _ (l .k - 1) _ (omega arith) t)
+    let t = l .inv .placed ∙ place-turn (l .k) (a .x) (a .y) (l .z) (omega arith) in
+    record { inside = omega arith; placed = t; z-most = place-small (a .h) (a .x) (a .y) _ (l .k - 1) _ (omega arith) t }
 
 returns : tie.Need-returns Inv-loop μ-loop
 unfolding place
@@ -33,7 +39,7 @@ returns c =
     let l = c .before .loop in
     let a = c .before .before .args in
     let e : l .k ≡ 0 = omega arith in
-    let t : place (a .h) (a .x % 2 ^ a .h) (a .y % 2 ^ a .h) ≡ l .z * 4 ^ 0 + 0 = rw e at (l .inv .1) in
+    let t : place (a .h) (a .x % 2 ^ a .h) (a .y % 2 ^ a .h) ≡ l .z * 4 ^ 0 + 0 = rw e at (l .inv .placed) in
     let p = place-lt (a .h) (a .x % 2 ^ a .h) (a .y % 2 ^ a .h) (mod-lt (a .x) (pow-pos (a .h))) (mod-lt (a .y) (pow-pos (a .h))) in
     (omega arith, omega arith)
 

@@ -1,5 +1,6 @@
 -- `together` takes the words one after another. The loop's invariant: w has each bit that one of the words passed has. The measure is the words left.
 -- Assumes nothing.
+use mathlib.Core.List.{List}
 use mathlib.Core.Path.{_≡_}
 use Prim.Native.Nat.{ℕ, _+_, _-_, _*_, _≤_, _<_}
 use native.Mathlib.Omega.{arith}
@@ -9,14 +10,21 @@ use Rattle.packing.proofs.StoreLaws.{or-more, or-digits}
 use Rattle.packing.proofs.making.together.Statement.{statement}
 use Rattle.packing.proofs.making.together.Tie as tie
 
+-- what holds whenever the loop is at its head
+record Loop (words : List ℕ) (i step count w k : ℕ) : Type 0 where
+  inside : k ≤ count
+  all-zero : w ≡ 0 → (j : ℕ) → j < k → getD words (i + step * j) 0 ≡ 0
+  together : Together words i step k w
+
 abbrev Inv-loop : tie.InvT-loop
-Inv-loop words i step count w₀ k₀ w k = (k ≤ count) × (w ≡ 0 → (j : ℕ) → j < k → getD words (i + step * j) 0 ≡ 0) × Together words i step k w
+Inv-loop words i step count w₀ k₀ w k = Loop words i step count w k
 
 abbrev μ-loop : tie.MeasureT-loop
 μ-loop words i step count w₀ k₀ w k = count - k
 
 loop-holds : tie.Need-loop-holds Inv-loop μ-loop
-loop-holds c = (omega arith, λ e j l. absurd (omega arith), λ d j l e. absurd (omega arith))
+loop-holds c =
+    record { inside = omega arith; all-zero = λ e j l. absurd (omega arith); together = λ d j l e. absurd (omega arith) }
 
 mul-w : tie.Need-mul-w Inv-loop μ-loop
 mul-w c = let p = c .before .before .pre (c .before .loop .k) (c .loop-test .taken) in omega arith
@@ -35,12 +43,12 @@ loop-again c =
     let a = c .before .before .before .args in
     let l = c .before .before .loop in
     let x : ℕ → ℕ = λ j. getD (a .words .now) (a .i + a .step * j) 0 in
-    (omega arith, or-more x (l .w) (l .k) (l .inv .1), or-digits x (l .w) (l .k) (l .inv .2))
+    record { inside = omega arith; all-zero = or-more x (l .w) (l .k) (l .inv .all-zero); together = or-digits x (l .w) (l .k) (l .inv .together) }
 
 returns : tie.Need-returns Inv-loop μ-loop
 returns c =
     let l = c .before .loop in
-    (λ e k h. l .inv .1 e k (omega arith), λ d k h e. l .inv .2 d k (omega arith) e)
+    (λ e k h. l .inv .all-zero e k (omega arith), λ d k h e. l .inv .together d k (omega arith) e)
 
 pub together-spec : {M : Type 1} → statement M
 together-spec =

@@ -16,9 +16,13 @@ use Rattle.packing.proofs.StoreLaws.{false-absurd, nil-of}
 use Rattle.packing.proofs.testing.well_formed.Statement.{statement}
 use Rattle.packing.proofs.testing.well_formed.Tie as tie
 
+-- The places that the needs come back to.
+abbrev start-of-load : tie.After-load → tie.Start
+start-of-load p = let at-tree-unit = p .before .before .before in at-tree-unit .before .before .before
+
 -- the rows of a tree that is well formed
 loaded : (c : tie.After-load)
-    → let start = c .before .before .before .before .before .before in
+    → let start = start-of-load c in
     (w : WellFormed (start .args .n) (start .args .tree .now)) → bitAt (c .load .last .1 .1 .1 .0) ≡ flat (w .set)
 loaded c w = c .load .ensures (w .set) noPairs (w .is-set) (w .tree) (bits-none 16384 ∙ sym flat-none) ∙ ap flat (union-none (w .set))
 

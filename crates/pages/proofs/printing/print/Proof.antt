@@ -8,6 +8,13 @@ use borrow.Author.Needs.{needs}
 use Rattle.pages.proofs.printing.print.Statement.{statement}
 use Rattle.pages.proofs.printing.print.Tie as tie
 
+-- The places that the needs come back to.
+abbrev relate-of-match-keys1 : tie.At-match-keys1 → tie.After-relate
+relate-of-match-keys1 p = p .before .before .before .before
+
+abbrev lay-out-of-slice-known4 : tie.After-slice-known4 → tie.After-lay-out
+lay-out-of-slice-known4 p = p .before .before
+
 lay-out-requires : tie.Need-lay-out-requires
 lay-out-requires c κs =
     let after-answer2 = c .before .before .before .before in
@@ -18,14 +25,14 @@ lay-out-requires c κs =
 
 returns : tie.Need-returns
 returns c =
-    let after-relate = c .before .before .before .before .before .before in
+    let after-relate = relate-of-match-keys1 (c .before .before) in
     let start = after-relate .before .before .before .before .before in
     prints-refused (start .args .register) (now (start .args .text)) (length (now (start .args .work)))
     _ (now (start .args .pages)) (after-relate .relate .ensures) (c .before .answer .given .1)
 
 returns-2 : tie.Need-returns-2
 returns-2 c =
-    let after-answer2 = c .before .before .before .before .before .before .before in
+    let after-answer2 = lay-out-of-slice-known4 c .before .before .before .before .before in
     let after-relate = after-answer2 .before .before .before .before .before in
     let start = after-relate .before .before .before .before .before in
     prints-laid (start .args .register) (now (start .args .text)) (length (now (start .args .work))) _ (now (start .args .pages))

@@ -12,6 +12,16 @@ use Rattle.pages.proofs.WritingLaws.{wrote-head}
 use Rattle.pages.proofs.printing.put_head_line.Statement.{statement}
 use Rattle.pages.proofs.printing.put_head_line.Tie as tie
 
+-- The places that the needs come back to.
+abbrev start-of-put-text : tie.After-put-text → tie.Start
+start-of-put-text p = let at-shown-bytes = p .before .before .before in at-shown-bytes .before .before .before
+
+abbrev start-of-put-blanks : tie.After-put-blanks → tie.Start
+start-of-put-blanks p = start-of-put-text (p .before .before .before .before)
+
+abbrev put-right-of-put-byte : tie.After-put-byte → tie.After-put-right
+put-right-of-put-byte p = p .before .before .before .before
+
 slice-aggregate-put-text : tie.Need-slice-aggregate-put-text
 slice-aggregate-put-text c =
     let n = c .before .shown-bytes in
@@ -31,7 +41,7 @@ text-end : (c : tie.After-put-text)
     (c .put-text .result ≡ start .args .at + after-shown-bytes .shown-bytes .result)
     × (length (c .put-text .last .1 .0) ≡ length (now (start .args .out))) × (after-shown-bytes .shown-bytes .result ≤ 60)
 text-end c =
-    let s = c .before .before .before .before .before .before in
+    let s = start-of-put-text c in
     let n = c .before .before .before .shown-bytes in
     let p = c .put-text in
     let l : length (take (n .result) (now (s .args .text))) ≡ n .result = length-take-le (n .result) (now (s .args .text)) (omega (arith, n .ensures)) in
@@ -43,15 +53,15 @@ sub-put-blanks c = omega (arith, text-end (c .before .before) .2)
 put-blanks-requires : tie.Need-put-blanks-requires
 put-blanks-requires c κs =
     let after-put-text = c .before .before .before in
-    let start = after-put-text .before .before .before .before .before .before in
+    let start = start-of-put-text after-put-text in
     let t = text-end after-put-text in omega (arith, t .0, t .1, t .2, start .pre .1)
 
 add-put-right : tie.Need-add-put-right
-add-put-right c = omega (arith, c .before .before .before .before .before .before .before .before .before .before .before .before .pre .0)
+add-put-right c = omega (arith, start-of-put-blanks (c .before .before) .pre .0)
 
 -- the same after the blanks
 blanks-end : (c : tie.After-put-blanks)
-    → let start = c .before .before .before .before .before .before .before .before .before .before in
+    → let start = start-of-put-blanks c in
     (c .put-blanks .result ≡ start .args .at + 60)
     × (length (c .put-blanks .last .1 .0) ≡ length (now (start .args .out)))
 blanks-end c =
@@ -64,15 +74,16 @@ blanks-end c =
 
 put-right-requires : tie.Need-put-right-requires
 put-right-requires c κs =
-    let s = c .before .before .before .before .before .before .before .before .before .before .before .before .before in
-    let b = blanks-end (c .before .before .before) in
+    let after-put-blanks = c .before .before .before in
+    let s = start-of-put-blanks after-put-blanks in
+    let b = blanks-end after-put-blanks in
     (page-figures (s .args .page) (s .pre .0), omega (arith, b .0, b .1, s .pre .1))
 
 put-byte-requires : tie.Need-put-byte-requires
 put-byte-requires c κs =
     let after-put-right = c .before .before .before in
     let after-put-blanks = after-put-right .before .before .before .before in
-    let s = after-put-blanks .before .before .before .before .before .before .before .before .before .before in
+    let s = start-of-put-blanks after-put-blanks in
     let b = blanks-end after-put-blanks in
     let p = after-put-right .put-right in
     let k : length (p .last .1 .1 .0) ≡ length (after-put-blanks .put-blanks .last .1 .0) = p .kept .1 .1 .0 in
@@ -80,7 +91,7 @@ put-byte-requires c κs =
 
 returns : tie.Need-returns
 returns c =
-    let after-put-right = c .before .before .before .before .before .before in
+    let after-put-right = put-right-of-put-byte (c .before .before) in
     let after-put-blanks = after-put-right .before .before .before .before in
     let after-put-text = after-put-blanks .before .before .before .before in
     let after-shown-bytes = after-put-text .before .before .before in

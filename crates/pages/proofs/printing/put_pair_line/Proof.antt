@@ -1,5 +1,6 @@
 -- `put_pair_line`: the loop's invariant is that the cells of the first i words are written, 12 bytes each; the measure is the number of words left. Then blanks
 -- and the line feed (`wrote-pairs`). Assumes nothing.
+use mathlib.Core.List.{List}
 use mathlib.Core.Path.{_≡_, refl, subst, _∙_}
 use Prim.Native.Nat.{ℕ, _+_, _-_, _*_, _≤_}
 use native.Mathlib.Omega.{arith}
@@ -15,26 +16,46 @@ use Rattle.pages.proofs.WritingLaws.{wrote-pairs}
 use Rattle.pages.proofs.printing.put_pair_line.Statement.{statement}
 use Rattle.pages.proofs.printing.put_pair_line.Tie as tie
 
+-- what holds whenever the loop is at its head
+record Loop (words : List ℕ) (count : ℕ) (out₀ : List ℕ) (at : ℕ) (out : List ℕ) (end i : ℕ) : Type 0 where
+  inside : i ≤ count
+  as-long : length out ≡ length out₀
+  end-is : end ≡ at + 12 * i
+  wrote : Wrote at (lines pairCell (take i words)) out₀ out end
+
 abbrev Inv-loop : tie.InvT-loop
-Inv-loop words count out₀ at end₀ i₀ out end i =
-    (i ≤ count) × (length out ≡ length out₀) × (end ≡ at + 12 * i) × Wrote at (lines pairCell (take i words)) out₀ out end
+Inv-loop words count out₀ at end₀ i₀ out end i = Loop words count out₀ at out end i
 
 abbrev μ-loop : tie.MeasureT-loop
 μ-loop words count out₀ at end₀ i₀ out end i = count - i
 
+-- The places that the needs come back to.
+abbrev start-of-loop : tie.At-loop Inv-loop μ-loop → tie.Start Inv-loop μ-loop
+start-of-loop p = p .before .before .before
+
+abbrev put-blanks-of-put-byte : tie.After-put-byte Inv-loop μ-loop → tie.After-put-blanks Inv-loop μ-loop
+put-blanks-of-put-byte p = p .before .before .before .before
+
 loop-holds : tie.Need-loop-holds Inv-loop μ-loop
 unfolding lines
-loop-holds c = let s = c .before .before in (omega arith, refl, omega arith, wrote-none (s .args .at) (now (s .args .out)) (omega (arith, s .pre .3)))
+loop-holds c = let s = c .before .before in
+    record {
+      inside = omega arith;
+      as-long = refl;
+      end-is = omega arith;
+      wrote = wrote-none (s .args .at) (now (s .args .out)) (omega (arith, s .pre .fits));
+    }
 
 shared-slice-read-put-cell : tie.Need-shared-slice-read-put-cell Inv-loop μ-loop
-shared-slice-read-put-cell c = let s = c .before .before .before .before .before in omega (arith, s .pre .1)
+shared-slice-read-put-cell c = let s = c .before .before .before .before .before in omega (arith, s .pre .there)
 
 put-cell-requires : tie.Need-put-cell-requires Inv-loop μ-loop
 put-cell-requires c κs =
-    let s = c .before .before .before .before .before .before in
-    let here = c .before .before .before .loop in (
-      s .pre .2 (here .i) (c .before .before .loop-test .taken),
-      omega (arith, s .pre .0, s .pre .3, here .inv .1, here .inv .2, c .before .before .loop-test .taken),
+    let in-loop = c .before .before in
+    let s = start-of-loop (in-loop .before) in
+    let here = in-loop .before .loop in (
+      s .pre .small (here .i) (in-loop .loop-test .taken),
+      omega (arith, s .pre .few, s .pre .fits, here .inv .as-long, here .inv .end-is, in-loop .loop-test .taken),
     )
 
 add-i : tie.Need-add-i Inv-loop μ-loop
@@ -52,24 +73,25 @@ loop-again c =
     let ws = now (s .args .words) in
     let h = in-loop .loop-test .taken in
     let k : length (q .last .1 .0) ≡ length (here .out) = q .kept .1 .0 in
-    let n = length-cell (getD ws (here .i) 0) (s .pre .2 (here .i) h) in (
-      omega arith,
-      k ∙ here .inv .1,
-      omega (arith, q .ensures .place, here .inv .2),
-      wrote-line pairCell ws (here .i) (here .inv .3) (q .ensures) (omega (arith, s .pre .1)),
-    )
+    let n = length-cell (getD ws (here .i) 0) (s .pre .small (here .i) h) in
+    record {
+      inside = omega arith;
+      as-long = k ∙ here .inv .as-long;
+      end-is = omega (arith, q .ensures .place, here .inv .end-is);
+      wrote = wrote-line pairCell ws (here .i) (here .inv .wrote) (q .ensures) (omega (arith, s .pre .there));
+    }
 
 mul-put-blanks : tie.Need-mul-put-blanks Inv-loop μ-loop
-mul-put-blanks c = let s = c .before .before .before .before in omega (arith, s .pre .0)
+mul-put-blanks c = let s = c .before .before .before .before in omega (arith, s .pre .few)
 
 sub-put-blanks : tie.Need-sub-put-blanks Inv-loop μ-loop
-sub-put-blanks c = let s = c .before .before .before .before in omega (arith, s .pre .0)
+sub-put-blanks c = let s = c .before .before .before .before in omega (arith, s .pre .few)
 
 put-blanks-requires : tie.Need-put-blanks-requires Inv-loop μ-loop
 put-blanks-requires c κs =
     let s = c .before .before .before .before .before in
     let here = c .before .before .loop in
-    omega (arith, s .pre .0, s .pre .3, here .inv .0, here .inv .1, here .inv .2)
+    omega (arith, s .pre .few, s .pre .fits, here .inv .inside, here .inv .as-long, here .inv .end-is)
 
 put-byte-requires : tie.Need-put-byte-requires Inv-loop μ-loop
 put-byte-requires c κs =
@@ -83,17 +105,17 @@ put-byte-requires c κs =
       arith,
       p .ensures .place,
       length-replicate (72 - 12 * s .args .count) space,
-      s .pre .0,
-      s .pre .3,
-      here .inv .0,
-      here .inv .1,
-      here .inv .2,
+      s .pre .few,
+      s .pre .fits,
+      here .inv .inside,
+      here .inv .as-long,
+      here .inv .end-is,
       after-put-blanks .before .before .loop-test .left,
     )
 
 same-length : tie.Need-same-length Inv-loop μ-loop
 same-length c =
-    let after-put-blanks = c .before .before .before .before .before .before in
+    let after-put-blanks = put-blanks-of-put-byte (c .before .before) in
     let at-loop = after-put-blanks .before .before .before in
     let s = at-loop .before .before .before in
     let here = at-loop .loop in
@@ -101,18 +123,18 @@ same-length c =
     let q = c .before .before .put-byte in
     let k : length (p .last .1 .0) ≡ length (here .out) = p .kept .1 .0 in
     let j : length (q .last .1 .0) ≡ length (p .last .1 .0) = q .kept .1 .0 in
-    j ∙ k ∙ here .inv .1
+    j ∙ k ∙ here .inv .as-long
 
 returns : tie.Need-returns Inv-loop μ-loop
 returns c =
-    let after-put-blanks = c .before .before .before .before .before .before in
+    let after-put-blanks = put-blanks-of-put-byte (c .before .before) in
     let at-loop = after-put-blanks .before .before .before in
     let s = at-loop .before .before .before in
     let here = at-loop .loop in
     let ws = now (s .args .words) in
-    let e : here .i ≡ s .args .count = omega (arith, here .inv .0, after-put-blanks .before .before .loop-test .left) in
-    wrote-pairs ws (s .args .count) (s .pre .1) (s .pre .2)
-    (subst (λ (n : ℕ). Wrote (s .args .at) (lines pairCell (take n ws)) (now (s .args .out)) (here .out) (here .end)) e (here .inv .3))
+    let e : here .i ≡ s .args .count = omega (arith, here .inv .inside, after-put-blanks .before .before .loop-test .left) in
+    wrote-pairs ws (s .args .count) (s .pre .there) (s .pre .small)
+    (subst (λ (n : ℕ). Wrote (s .args .at) (lines pairCell (take n ws)) (now (s .args .out)) (here .out) (here .end)) e (here .inv .wrote))
     (after-put-blanks .put-blanks .ensures) (c .before .before .put-byte .ensures)
 
 pub put-pair-line-spec : {M : Type 1} → statement M

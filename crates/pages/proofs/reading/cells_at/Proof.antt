@@ -13,17 +13,29 @@ use Rattle.pages.proofs.ReadingLaws.{cells-end, cells-next}
 use Rattle.pages.proofs.reading.cells_at.Statement.{statement}
 use Rattle.pages.proofs.reading.cells_at.Tie as tie
 
+-- what holds whenever the loop is at its head
+record Loop (pages : List ℕ) (at : ℕ) (words₀ words : List ℕ) (k : ℕ) : Type 0 where
+  inside : k ≤ 6
+  as-long : length words ≡ length words₀
+  found : cellWords 6 (drop at pages) ≡ take k words ++ cellWords (6 - k) (drop (at + 12 * k) pages)
+
 abbrev Inv-loop : tie.InvT-loop
-Inv-loop pages at words₀ k₀ words k = (k ≤ 6) × (length words ≡ length words₀)
-    × (cellWords 6 (drop at pages) ≡ take k words ++ cellWords (6 - k) (drop (at + 12 * k) pages))
+Inv-loop pages at words₀ k₀ words k = Loop pages at words₀ words k
 
 abbrev μ-loop : tie.MeasureT-loop
 μ-loop pages at words₀ k₀ words k = 6 - k
 
+-- The places that the needs come back to.
+abbrev start-of-loop : tie.At-loop Inv-loop μ-loop → tie.Start Inv-loop μ-loop
+start-of-loop p = p .before .before .before
+
+abbrev start-of-cell-at : tie.After-cell-at Inv-loop μ-loop → tie.Start Inv-loop μ-loop
+start-of-cell-at p = start-of-loop (p .before .before .before .before)
+
 loop-holds : tie.Need-loop-holds Inv-loop μ-loop
 loop-holds c = let s = c .before .before in
     let e : s .args .at ≡ s .args .at + 12 * 0 = omega arith in
-    (omega arith, refl, ap (λ (n : ℕ). cellWords 6 (drop n (now (s .args .pages)))) e)
+    record { inside = omega arith; as-long = refl; found = ap (λ (n : ℕ). cellWords 6 (drop n (now (s .args .pages)))) e }
 
 mul-cell : tie.Need-mul-cell Inv-loop μ-loop
 mul-cell c = omega (arith, c .loop-test .taken)
@@ -38,24 +50,26 @@ shared-slice-read-if1 : tie.Need-shared-slice-read-if1 Inv-loop μ-loop
 shared-slice-read-if1 c = let s = c .before .before .before .before .before in omega (arith, s .pre .0, c .before .loop-test .taken)
 
 same-length : tie.Need-same-length Inv-loop μ-loop
-same-length c = c .before .before .before .loop .inv .1
+same-length c = c .before .before .before .loop .inv .as-long
 
 returns : tie.Need-returns Inv-loop μ-loop
-returns c = let s = c .before .before .before .before .before .before in
-    let here = c .before .before .before .loop in (
-      here .inv .0,
-      sym (here .inv .2 ∙ ap (λ (t : List ℕ). take (here .k) (here .words) ++ t)
+returns c =
+    let at-loop = c .before .before .before in
+    let s = start-of-loop at-loop in
+    let here = at-loop .loop in (
+      here .inv .inside,
+      sym (here .inv .found ∙ ap (λ (t : List ℕ). take (here .k) (here .words) ++ t)
           (cells-end (now (s .args .pages)) (s .args .at) (here .k) (c .before .before .loop-test .taken) (c .if1 .taken))
           ∙ append-nil (take (here .k) (here .words))),
     )
 
 cell-at-requires : tie.Need-cell-at-requires Inv-loop μ-loop
-cell-at-requires c κs = let s = c .before .before .before .before .before .before in omega (arith, s .pre .0, c .before .before .loop-test .taken)
+cell-at-requires c κs = let s = start-of-loop (c .before .before .before) in omega (arith, s .pre .0, c .before .before .loop-test .taken)
 
 slice-write-words : tie.Need-slice-write-words Inv-loop μ-loop
 slice-write-words c =
     let in-loop = c .before .before .before in
-    let s = in-loop .before .before .before .before in omega (arith, s .pre .1, in-loop .before .loop .inv .1, in-loop .loop-test .taken)
+    let s = in-loop .before .before .before .before in omega (arith, s .pre .1, in-loop .before .loop .inv .as-long, in-loop .loop-test .taken)
 
 add-k : tie.Need-add-k Inv-loop μ-loop
 add-k c = omega (arith, c .before .before .before .loop-test .taken)
@@ -64,32 +78,33 @@ loop-less : tie.Need-loop-less Inv-loop μ-loop
 loop-less c = omega (arith, c .before .before .before .loop-test .taken)
 
 loop-again : tie.Need-loop-again Inv-loop μ-loop
-loop-again c = let s = c .before .before .before .before .before .before .before in
+loop-again c = let s = start-of-cell-at c in
     let here = c .before .before .before .before .loop in
     let l = now (s .args .pages) in
     let h = c .before .before .before .loop-test .taken in
     let w = c .cell-at .result in
     let rest = cellWords (6 - (here .k + 1)) (drop (s .args .at + 12 * (here .k + 1)) l) in
-    let n : here .k < length (here .words) = omega (arith, s .pre .1, here .inv .1) in (
-      omega arith,
-      simp length-set (here .inv .1),
-      here .inv .2 ∙ ap (λ (t : List ℕ). take (here .k) (here .words) ++ t)
+    let n : here .k < length (here .words) = omega (arith, s .pre .1, here .inv .as-long) in
+    record {
+      inside = omega arith;
+      as-long = simp length-set (here .inv .as-long);
+      found = here .inv .found ∙ ap (λ (t : List ℕ). take (here .k) (here .words) ++ t)
           (cells-next l (s .args .at) (here .k) h (c .before .if1 .left) ∙ ap (λ (v : ℕ). v ∷ rest) (sym (c .cell-at .ensures)))
           ∙ sym (append-assoc (take (here .k) (here .words)) (w ∷ []) rest)
           ∙ ap (λ (t : List ℕ). t ++ rest) (sym (take-suc-set (here .words) (here .k) w n)
-          ∙ ap (λ (i : ℕ). take i (set (here .words) (here .k) w)) (sym (add-one (here .k)))),
-    )
+          ∙ ap (λ (i : ℕ). take i (set (here .words) (here .k) w)) (sym (add-one (here .k))));
+    }
 
 same-length-2 : tie.Need-same-length-2 Inv-loop μ-loop
-same-length-2 c = c .before .loop .inv .1
+same-length-2 c = c .before .loop .inv .as-long
 
 returns-2 : tie.Need-returns-2 Inv-loop μ-loop
 unfolding cellWords
 returns-2 c = let s = c .before .before .before .before in
     let here = c .before .loop in
     let z : 6 - here .k ≡ 0 = omega (arith, c .loop-test .left) in (
-      here .inv .0,
-      sym (here .inv .2 ∙ ap (λ (f : ℕ). take (here .k) (here .words) ++ cellWords f (drop (s .args .at + 12 * here .k) (now (s .args .pages)))) z
+      here .inv .inside,
+      sym (here .inv .found ∙ ap (λ (f : ℕ). take (here .k) (here .words) ++ cellWords f (drop (s .args .at + 12 * here .k) (now (s .args .pages)))) z
           ∙ append-nil (take (here .k) (here .words))),
     )
 

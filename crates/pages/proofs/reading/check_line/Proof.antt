@@ -12,6 +12,16 @@ use borrow.Author.Needs.{needs}
 use Rattle.pages.proofs.reading.check_line.Statement.{statement}
 use Rattle.pages.proofs.reading.check_line.Tie as tie
 
+-- The places that the needs come back to.
+abbrev start-of-least-pairs : tie.After-least-pairs → tie.Start
+start-of-least-pairs p = let at-cells-at = p .before .before in at-cells-at .before .before .before .before .before
+
+abbrev cells-at-of-rising : tie.After-rising → tie.After-cells-at
+cells-at-of-rising p = p .before .before .before .before .before
+
+abbrev cells-at-of-is-pair-line : tie.After-is-pair-line → tie.After-cells-at
+cells-at-of-is-pair-line p = cells-at-of-rising (p .before .before .before)
+
 not-both : {b : Bool} → b ≡ true → b ≡ false → ⊥
 not-both t f = let z : _≡_ {A = ℕ} 0 1 = cc in omega arith
 
@@ -30,7 +40,7 @@ words c =
 returns : tie.Need-returns
 returns c = let s = c .before .before .before .before .before in
     head-stands (now (s .args .text)) (now (s .args .pages)) (s .args .i) (s .args .lines) (s .args .low)
-    (c .before .before .if1 .taken) (s .pre .3) (c .before .is-head .ensures .0 (c .if2 .taken))
+    (c .before .before .if1 .taken) (s .pre .inside) (c .before .is-head .ensures .0 (c .if2 .taken))
 
 returns-2 : tie.Need-returns-2
 returns-2 c = let s = c .before .before .before .before .before in
@@ -39,7 +49,7 @@ returns-2 c = let s = c .before .before .before .before .before in
     (s .args .low) (c .before .before .if1 .taken) (λ e. not-both (c .before .is-head .ensures .1 e) f)
 
 returns-3 : tie.Need-returns-3
-returns-3 c = let s = c .before .before .before .before .before .before .before .before in
+returns-3 c = let s = start-of-least-pairs (c .before) in
     let w = words (c .before .before .before) in
     let l = c .before .least-pairs .ensures in
     short-falls (now (s .args .text)) (now (s .args .pages)) (s .args .i) (s .args .lines)
@@ -48,7 +58,7 @@ returns-3 c = let s = c .before .before .before .before .before .before .before 
 
 returns-4 : tie.Need-returns-4
 returns-4 c =
-    let after-cells-at = c .before .before .before .before .before .before in
+    let after-cells-at = cells-at-of-rising (c .before) in
     let s = after-cells-at .before .before .before .before .before in
     let w = words after-cells-at in
     rising-falls (now (s .args .text)) (now (s .args .pages)) (s .args .i) (s .args .lines)
@@ -57,15 +67,16 @@ returns-4 c =
 
 is-pair-line-requires : tie.Need-is-pair-line-requires
 is-pair-line-requires c κs =
-    let after-cells-at = c .before .before .before .before .before .before .before in
+    let after-cells-at = cells-at-of-rising (c .before .before) in
     let s = after-cells-at .before .before .before .before .before in
     let w = words after-cells-at in
-    let q = after-cells-at .cells-at in (
-      q .ensures .0,
-      w .0,
-      rising-small (q .last .1 .1 .0) (q .result) (w .0) (c .before .before .rising .ensures) (c .before .if4 .left),
-      omega (arith, s .pre .0, s .pre .2),
-    )
+    let q = after-cells-at .cells-at in
+    record {
+      few = q .ensures .0;
+      there = w .0;
+      small = rising-small (q .last .1 .1 .0) (q .result) (w .0) (c .before .before .rising .ensures) (c .before .if4 .left);
+      fits = omega (arith, s .pre .line, s .pre .fits);
+    }
 
 returns-5 : tie.Need-returns-5
 returns-5 c =
@@ -84,7 +95,7 @@ returns-5 c =
 
 returns-6 : tie.Need-returns-6
 returns-6 c =
-    let after-cells-at = c .before .before .before .before .before .before .before .before .before in
+    let after-cells-at = cells-at-of-is-pair-line (c .before) in
     let s = after-cells-at .before .before .before .before .before in
     let w = words after-cells-at in
     let f : c .before .is-pair-line .result ≡ false = c .if5 .left in

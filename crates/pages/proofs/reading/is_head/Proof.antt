@@ -9,6 +9,13 @@ use Rattle.pages.proofs.WritingLaws.{wrote-whole}
 use Rattle.pages.proofs.reading.is_head.Statement.{statement}
 use Rattle.pages.proofs.reading.is_head.Tie as tie
 
+-- The places that the needs come back to.
+abbrev start-of-put-head-line : tie.After-put-head-line → tie.Start
+start-of-put-head-line p = p .before .before .before .before
+
+abbrev start-of-same-line : tie.After-same-line → tie.Start
+start-of-same-line p = start-of-put-head-line (p .before .before .before)
+
 slice-aggregate-put-head-line : tie.Need-slice-aggregate-put-head-line
 slice-aggregate-put-head-line c = refl
 
@@ -20,13 +27,13 @@ slice-aggregate-same-line c = let q = c .before .before .put-head-line in let k 
 
 same-line-requires : tie.Need-same-line-requires
 same-line-requires c κs =
-    let s = c .before .before .before .before .before .before in
+    let s = start-of-put-head-line (c .before .before) in
     let q = c .before .before .put-head-line in
     let k : length (q .last .1 .1 .0) ≡ 73 = q .kept .1 .1 .0 in
     (k, s .pre .1)
 
 returns : tie.Need-returns
-returns c = let s = c .before .before .before .before .before .before .before in
+returns c = let s = start-of-same-line c in
     let q = c .before .before .before .put-head-line in
     let k : length (q .last .1 .1 .0) ≡ 73 = q .kept .1 .1 .0 in
     let e : q .last .1 .1 .0 ≡ headLine (now (s .args .text)) (s .args .page) =

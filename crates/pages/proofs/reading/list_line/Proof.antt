@@ -11,6 +11,13 @@ use borrow.Author.Needs.{needs}
 use Rattle.pages.proofs.reading.list_line.Statement.{statement}
 use Rattle.pages.proofs.reading.list_line.Tie as tie
 
+-- The places that the needs come back to.
+abbrev start-of-cells-at : tie.After-cells-at → tie.Start
+start-of-cells-at p = p .before .before .before .before .before
+
+abbrev cells-at-of-copy-u32 : tie.After-copy-u32 → tie.After-cells-at
+cells-at-of-copy-u32 p = p .before .before .before .before
+
 returns : tie.Need-returns
 returns c = let s = c .before .before .before in
     wrote-as (sym (words-head (now (s .args .pages)) (s .args .i) (c .if1 .taken))) (wrote-none (s .args .at) (now (s .args .list)) (omega (arith, s .pre .1)))
@@ -31,15 +38,17 @@ slice-aggregate-copy-u32 c =
     sym (length-take-le (q .result) (q .last .1 .1 .0) (omega (arith, k, q .ensures .0)))
 
 copy-u32-requires : tie.Need-copy-u32-requires
-copy-u32-requires c κs = let s = c .before .before .before .before .before .before .before .before in
-    let q = c .before .before .before .cells-at in
+copy-u32-requires c κs =
+    let after-cells-at = c .before .before .before in
+    let s = start-of-cells-at after-cells-at in
+    let q = after-cells-at .cells-at in
     let e : take (q .result) (q .last .1 .1 .0) ≡ wordsAt (now (s .args .pages)) (s .args .i) =
-    q .ensures .1 ∙ sym (words-pairs (now (s .args .pages)) (s .args .i) (omega (arith, c .before .before .before .before .before .if1 .left))) in
+    q .ensures .1 ∙ sym (words-pairs (now (s .args .pages)) (s .args .i) (omega (arith, after-cells-at .before .before .if1 .left))) in
     omega (arith, s .pre .1, ap length e)
 
 returns-2 : tie.Need-returns-2
 returns-2 c =
-    let after-cells-at = c .before .before .before .before .before .before in
+    let after-cells-at = cells-at-of-copy-u32 (c .before .before) in
     let s = after-cells-at .before .before .before .before .before in
     let q = after-cells-at .cells-at in
     let e : take (q .result) (q .last .1 .1 .0) ≡ wordsAt (now (s .args .pages)) (s .args .i) =

@@ -17,13 +17,23 @@ use borrow.Author.Needs.{needs}
 use Rattle.rowpairs.proofs.leaving.leave.Statement.{statement}
 use Rattle.rowpairs.proofs.leaving.leave.Tie as tie
 
+-- The places that the needs come back to.
+abbrev start-of-read : tie.After-read → tie.Start
+start-of-read p = let at-shared-slice-known = p .before .before .before .before .before in at-shared-slice-known .before
+
+abbrev start-of-pairs-work : tie.After-pairs-work → tie.Start
+start-of-pairs-work p = start-of-read (p .before .before .before .before .before)
+
+abbrev start-of-match-keys2 : tie.At-match-keys2 → tie.Start
+start-of-match-keys2 p = start-of-read (p .before .before)
+
 code-length : (c : tie.After-read) → length (c .read .result .code) ≡ 256
 code-length c = search needs
 
 -- an accepted text
 accepted-text : (c : tie.After-read3)
     → let after-read = c .before .before .before in
-    let start = after-read .before .before .before .before .before .before in
+    let start = start-of-read after-read in
     (e : Expr) × (verdict (start .args .text .now) ≡ accepted e)
     × Coded (start .args .text .now) e (take (c .read3 .given .0 .0) (after-read .read .result .code)) × (c .read3 .given .0 .0 ≤ 256)
 accepted-text c = read-coded (c .before .before .before .read .ensures) (c .read3 .given .1)
@@ -32,16 +42,16 @@ in-code : (c : tie.After-read3) → c .read3 .given .0 .0 ≤ length (c .before 
 in-code c = omega (arith, code-length (c .before .before .before), accepted-text c .3)
 
 enough : (c : tie.Else1)
-    → let start = c .before .before .before .before .before .before .before .before .before .before .before .before in
+    → let start = start-of-pairs-work (c .before) in
     pairsWork (start .args .n) ≤ length (start .args .work .now)
 enough c =
-    let start = c .before .before .before .before .before .before .before .before .before .before .before .before in
+    let start = start-of-pairs-work (c .before) in
     subst (λ (i : ℕ). i ≤ length (start .args .work .now)) (c .before .pairs-work .ensures) (omega (arith, c .if1 .left))
 
 returns : tie.Need-returns
 returns c =
     let after-read3 = c .before .before .before in
-    let start = after-read3 .before .before .before .before .before .before .before .before .before in
+    let start = start-of-match-keys2 (after-read3 .before) in
     let q = accepted-text after-read3 in (
       leaves-short _ _ _ _ (q .0) (q .1) (start .args .n) (λ b R. R .size)
           (subst (λ (i : ℕ). length (start .args .work .now) < i) (c .before .pairs-work .ensures) (c .if1 .taken)),
@@ -58,7 +68,7 @@ leave-value-requires : tie.Need-leave-value-requires
 leave-value-requires c κs =
     let else1 = c .before .before .before in
     let after-read3 = else1 .before .before .before in
-    let start = after-read3 .before .before .before .before .before .before .before .before .before in
+    let start = start-of-match-keys2 (after-read3 .before) in
     let P = start .pre in
     let q = accepted-text after-read3 in (
       record { small = P .0; marked = P .1; coded = (start .args .text .now, q .0, q .2) },
@@ -77,7 +87,7 @@ returns-3 c =
     let after-leave-value = c .before .before .before .before in
     let else1 = after-leave-value .before .before .before .before in
     let after-read3 = else1 .before .before .before in
-    let start = after-read3 .before .before .before .before .before .before .before .before .before in
+    let start = start-of-match-keys2 (after-read3 .before) in
     let q = accepted-text after-read3 in
     let n = start .args .n in (
       leaves-made _ _ _ _ (q .0) (q .1) n (λ b R. R .size) (enough else1)

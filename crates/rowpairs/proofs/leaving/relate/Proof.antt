@@ -9,6 +9,10 @@ use borrow.Author.Needs.{needs}
 use Rattle.rowpairs.proofs.leaving.relate.Statement.{statement}
 use Rattle.rowpairs.proofs.leaving.relate.Tie as tie
 
+-- The places that the needs come back to.
+abbrev marks-of-relate-over : tie.After-relate-over → tie.After-marks
+marks-of-relate-over p = p .before .before .before .before
+
 in-words : (c : tie.After-links) → c .links .result .count ≤ length (c .links .result .words)
 in-words c = let o = c .links .ensures in omega (arith, o .few, o .long)
 
@@ -32,7 +36,7 @@ relate-over-requires c κs =
 returns : tie.Need-returns
 returns c =
     let r = c .before .before .relate-over .ensures in
-    let after-marks = c .before .before .before .before .before .before in
+    let after-marks = marks-of-relate-over (c .before .before) in
     let after-links = after-marks .before .before in
     let known = known-read (after-links .before .size .ensures) (after-marks .marks .ensures) (after-links .links .ensures) in
     record {

@@ -7,10 +7,15 @@ use borrow.Author.Needs.{needs}
 use Rattle.rowpairs.proofs.leaving.relate_over.Statement.{statement}
 use Rattle.rowpairs.proofs.leaving.relate_over.Tie as tie
 
+-- The places that the needs come back to.
+abbrev start-of-leave : tie.After-leave → tie.Start
+start-of-leave p = let at-shared-slice-known2 = p .before .before .before .before .before in at-shared-slice-known2 .before .before
+
 returns : tie.Need-returns
 returns c =
-    let start = c .before .before .before .before .before .before .before .before .before .before in
-    let v = c .before .before .before .leave in
+    let after-leave = c .before .before .before in
+    let start = start-of-leave after-leave in
+    let v = after-leave .leave in
     let k : length (v .last .1 .1 .1 .1 .0) ≡ length (start .args .work .now) = v .kept .1 .1 .1 .1 .0 in
     record {
       relating = record {

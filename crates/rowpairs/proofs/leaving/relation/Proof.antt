@@ -11,6 +11,22 @@ use borrow.Author.Needs.{needs}
 use Rattle.rowpairs.proofs.leaving.relation.Statement.{statement}
 use Rattle.rowpairs.proofs.leaving.relation.Tie as tie
 
+-- The places that the needs come back to.
+abbrev relate-of-match-keys2 : tie.At-match-keys2 → tie.After-relate
+relate-of-match-keys2 p = p .before .before .before .before
+
+abbrev start-of-match-keys2 : tie.At-match-keys2 → tie.Start
+start-of-match-keys2 p = let at-relate = p .before .before .before .before in at-relate .before .before .before .before .before
+
+abbrev row-width-of-spread : tie.After-spread → tie.After-row-width
+row-width-of-spread p = p .before .before
+
+abbrev relate-of-match-keys1 : tie.At-match-keys1 → tie.After-relate
+relate-of-match-keys1 p = p .before .before .before .before
+
+abbrev row-width-of-count-pairs : tie.After-count-pairs → tie.After-row-width
+row-width-of-count-pairs p = row-width-of-spread (p .before .before .before .before .before)
+
 -- a relation was left
 left : (c : tie.After-answer2)
     → let r = c .before .before .before .before .before .relate in
@@ -23,7 +39,7 @@ left c =
     (h, omega (arith, h .small, m))
 
 returns : tie.Need-returns
-returns c = rows-few (c .before .before .before .before .before .before .before .relate .ensures) _ (c .before .before .answer2 .given .1) (c .if1 .taken)
+returns c = rows-few (relate-of-match-keys2 (c .before .before .before) .relate .ensures) _ (c .before .before .answer2 .given .1) (c .if1 .taken)
 
 row-width-requires : tie.Need-row-width-requires
 row-width-requires c κs = left (c .before .before .before .before) .0 .small
@@ -31,28 +47,28 @@ row-width-requires c κs = left (c .before .before .before .before) .0 .small
 slice-aggregate-spread-2 : tie.Need-slice-aggregate-spread-2
 slice-aggregate-spread-2 c =
     let else1 = c .before .before .before .before in
-    let start = else1 .before .before .before .before .before .before .before .before .before .before .before .before in
+    let start = start-of-match-keys2 (else1 .before .before .before) in
     sym (length-take-le 16384 (start .args .rows .now) (omega (arith, else1 .if1 .left)))
 
 spread-requires : tie.Need-spread-requires
 spread-requires c κs =
     let else1 = c .before .before .before .before in
     let after-answer2 = else1 .before .before in
-    let start = after-answer2 .before .before .before .before .before .before .before .before .before .before in
+    let start = start-of-match-keys2 (after-answer2 .before) in
     let h = left after-answer2 in (
       list-space (after-answer2 .answer2 .given .0 .0) _ _ _ (c .before .row-width .ensures) (h .0) (h .1),
       length-take-le 16384 (start .args .rows .now) (omega (arith, else1 .if1 .left)),
     )
 
 count-pairs-requires : tie.Need-count-pairs-requires
-count-pairs-requires c κs = left (c .before .before .before .before .before .before .before .before .before .before .before)
+count-pairs-requires c κs = left (row-width-of-spread (c .before .before .before .before) .before .before .before .before .before)
 
 returns-2 : tie.Need-returns-2
-returns-2 c = rows-refused (c .before .before .before .before .before .before .relate .ensures) _ (c .before .answer .given .1)
+returns-2 c = rows-refused (relate-of-match-keys1 (c .before .before) .relate .ensures) _ (c .before .answer .given .1)
 
 returns-3 : tie.Need-returns-3
 returns-3 c =
-    let after-row-width = c .before .before .before .before .before .before .before in
+    let after-row-width = row-width-of-count-pairs c in
     let else1 = after-row-width .before .before .before in
     let after-answer2 = else1 .before .before in
     let after-relate = after-answer2 .before .before .before .before .before in

@@ -8,18 +8,28 @@ use borrow.Author.Needs.{needs}
 use Rattle.rowpairs.proofs.listing.list_value.Statement.{statement}
 use Rattle.rowpairs.proofs.listing.list_value.Tie as tie
 
+-- The places that the needs come back to.
+abbrev start-of-letter-alone : tie.After-letter-alone → tie.Start
+start-of-letter-alone p = let at-shared-slice-known = p .before .before .before .before .before in at-shared-slice-known .before
+
+abbrev leave-value-of-row-width : tie.After-row-width → tie.After-leave-value
+leave-value-of-row-width p = let at-work = p .before .before .before .before .before in at-work .before
+
+abbrev start-of-leave-value : tie.After-leave-value → tie.Start
+start-of-leave-value p = start-of-letter-alone (p .before .before .before .before)
+
 returns : tie.Need-returns
 returns c =
     let then1 = c .before .before .before .before in
-    let start = then1 .before .before .before .before .before .before .before in
+    let start = start-of-letter-alone (then1 .before) in
     let a = start .args in
     alone-listed (a .n) _ (a .links .now) (a .marks .now) (a .code .now) _ _ _
     (then1 .before .letter-alone .ensures (then1 .if1 .taken)) (start .pre .2) (c .before .before .list-letter .ensures)
 
 list-requires : tie.Need-list-requires
 list-requires c κs =
-    let after-leave-value = c .before .before .before .before .before .before .before in
-    let start = after-leave-value .before .before .before .before .before .before .before .before .before .before in
+    let after-leave-value = leave-value-of-row-width (c .before) in
+    let start = start-of-leave-value after-leave-value in
     let v = after-leave-value .leave-value in
     let k : length (v .last .1 .1 .1 .1 .0) ≡ length (start .args .work .now) = v .kept .1 .1 .1 .1 .0 in
     let j : length (v .last .1 .1 .1 .1 .1 .0) ≡ 1024 = v .kept .1 .1 .1 .1 .1 .0 in
@@ -30,8 +40,8 @@ list-requires c κs =
 returns-2 : tie.Need-returns-2
 returns-2 c =
     let after-row-width = c .before .before .before .before in
-    let after-leave-value = after-row-width .before .before .before .before .before .before in
-    let start = after-leave-value .before .before .before .before .before .before .before .before .before .before in
+    let after-leave-value = leave-value-of-row-width after-row-width in
+    let start = start-of-leave-value after-leave-value in
     let a = start .args in
     let v = after-leave-value .leave-value in
     let t = c .before .before .list2 in

@@ -10,7 +10,8 @@ use Rattle.rowpairs.proofs.listing.pairs.Tie as tie
 returns : tie.Need-returns
 returns c =
     let after-pairs-over-as-trees = c .before .before .before .before in
-    let after-links = after-pairs-over-as-trees .before .before .before .before .before .before .before .before in
+    let earlier = after-pairs-over-as-trees .before .before .before .before .before in
+    let after-links = earlier .before .before .before in
     let Z = after-links .before .before .size in
     let L = after-links .links in
     let n : Z .result - 0 ≡ Z .result = omega arith in

@@ -19,14 +19,20 @@ copied from to i h same k l = go (decLt k i)
         let e : k ≡ i = omega arith in
         ap (λ (j : ℕ). getD (set to i (getD from i 0)) j 0) e ∙ getD-set-same to i (getD from i 0) 0 h ∙ ap (λ (j : ℕ). getD from j 0) (sym e)
 
+-- what holds whenever the loop is at its head
+record Loop (from to₀ : List ℕ) (n : ℕ) (to : List ℕ) (i : ℕ) : Type 0 where
+  inside : i ≤ n
+  as-long : length to ≡ length to₀
+  copied : (k : ℕ) → k < i → getD to k 0 ≡ getD from k 0
+
 abbrev Inv-loop : tie.InvT-loop
-Inv-loop from to₀ n i₀ to i = (i ≤ n) × (length to ≡ length to₀) × ((k : ℕ) → k < i → getD to k 0 ≡ getD from k 0)
+Inv-loop from to₀ n i₀ to i = Loop from to₀ n to i
 
 abbrev μ-loop : tie.MeasureT-loop
 μ-loop from to₀ n i₀ to i = n - i
 
 loop-holds : tie.Need-loop-holds Inv-loop μ-loop
-loop-holds c = (omega arith, refl, λ k h. absurd (omega arith))
+loop-holds c = record { inside = omega arith; as-long = refl; copied = λ k h. absurd (omega arith) }
 
 mul-to : tie.Need-mul-to Inv-loop μ-loop
 mul-to c = omega (arith, c .before .before .pre .0)
@@ -35,10 +41,10 @@ shared-slice-read-to : tie.Need-shared-slice-read-to Inv-loop μ-loop
 shared-slice-read-to c = omega (arith, c .before .before .before .pre .0)
 
 mul-to-2 : tie.Need-mul-to-2 Inv-loop μ-loop
-mul-to-2 c = let l = c .before .before .loop .inv in omega (arith, c .before .before .before .pre .1, l .1)
+mul-to-2 c = let l = c .before .before .loop .inv in omega (arith, c .before .before .before .pre .1, l .as-long)
 
 slice-write-to : tie.Need-slice-write-to Inv-loop μ-loop
-slice-write-to c = let l = c .before .before .loop .inv in omega (arith, c .before .before .before .pre .1, l .1)
+slice-write-to c = let l = c .before .before .loop .inv in omega (arith, c .before .before .before .pre .1, l .as-long)
 
 add-i : tie.Need-add-i Inv-loop μ-loop
 add-i c = omega (arith, c .before .before .before .pre .0)
@@ -48,14 +54,14 @@ loop-again c =
     let start = c .before .before .before in
     let l = c .before .before .loop in
     let from = start .args .from .now in
-    let long : l .i < length (l .to) = omega (arith, start .pre .1, l .inv .1) in
-    (omega arith, length-set (l .to) (l .i) _ ∙ l .inv .1, copied from (l .to) (l .i) long (l .inv .2))
+    let long : l .i < length (l .to) = omega (arith, start .pre .1, l .inv .as-long) in
+    record { inside = omega arith; as-long = length-set (l .to) (l .i) _ ∙ l .inv .as-long; copied = copied from (l .to) (l .i) long (l .inv .copied) }
 
 same-length : tie.Need-same-length Inv-loop μ-loop
-same-length c = c .before .loop .inv .1
+same-length c = c .before .loop .inv .as-long
 
 returns : tie.Need-returns Inv-loop μ-loop
-returns c = λ k h. c .before .loop .inv .2 k (omega arith)
+returns c = λ k h. c .before .loop .inv .copied k (omega arith)
 
 pub copy-masks-spec : {M : Type 1} → statement M
 copy-masks-spec =

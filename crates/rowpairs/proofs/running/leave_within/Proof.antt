@@ -6,13 +6,18 @@ use borrow.Author.Needs.{needs}
 use Rattle.rowpairs.proofs.running.leave_within.Statement.{statement}
 use Rattle.rowpairs.proofs.running.leave_within.Tie as tie
 
+-- The places that the needs come back to.
+abbrev start-of-few-masks : tie.After-few-masks → tie.Start
+start-of-few-masks p = let at-shared-slice-known = p .before .before .before .before .before in at-shared-slice-known .before
+
 leave-run-requires : tie.Need-leave-run-requires
 leave-run-requires c κs =
-    let P = c .before .before .before .before .before .before .before .before .before .before .pre in (
+    let then1 = c .before .before .before in
+    let P = start-of-few-masks (then1 .before) .pre in (
       λ k h l. record {
         small = P .0 .small;
         words = P .1;
-        marks = c .before .before .before .before .few-masks .ensures (c .before .before .before .if1 .taken) k h l;
+        marks = then1 .before .few-masks .ensures (then1 .if1 .taken) k h l;
       },
       P .0,
       P .2,
@@ -20,7 +25,7 @@ leave-run-requires c κs =
 
 leave-run-requires-2 : tie.Need-leave-run-requires-2
 leave-run-requires-2 c κs =
-    let start = c .before .before .before .before .before .before .before .before .before .before in
+    let start = start-of-few-masks (c .before .before .before .before) in
     let P = start .pre in (
       λ k h l. record {
         small = P .0 .small;

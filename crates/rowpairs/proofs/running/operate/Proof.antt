@@ -8,12 +8,31 @@ use borrow.Author.Needs.{needs}
 use Rattle.rowpairs.proofs.running.operate.Statement.{statement}
 use Rattle.rowpairs.proofs.running.operate.Tie as tie
 
+-- The places that the needs come back to.
+abbrev start-of-match-keys1 : tie.At-match-keys1 → tie.Start
+start-of-match-keys1 p = p .before .before .before .before .before
+
+abbrev transpose-of-slice-known7 : tie.After-slice-known7 → tie.After-transpose
+transpose-of-slice-known7 p = p .before .before .before .before
+
+abbrev close-of-put-zero-steps : tie.After-put-zero-steps → tie.After-close
+close-of-put-zero-steps p = let at-slice-known8 = p .before .before .before .before .before in at-slice-known8 .before .before
+
+abbrev close2-of-slice-known13 : tie.After-slice-known13 → tie.After-close2
+close2-of-slice-known13 p = p .before .before .before .before
+
+abbrev unite-of-slice-known17 : tie.After-slice-known17 → tie.After-unite
+unite-of-slice-known17 p = p .before .before .before .before
+
+abbrev compose-of-slice-known19 : tie.After-slice-known19 → tie.After-compose
+compose-of-slice-known19 p = p .before .before .before .before
+
 returns : tie.Need-returns
 returns c =
     let after-put-letters = c .before .before .before .before in
     let after-start = after-put-letters .before .before .before .before .before in
     let after-item = after-start .before .before .before in
-    let start′ = after-item .before .before .before .before .before .before in
+    let start′ = start-of-match-keys1 (after-item .before) in
     let a = start′ .args in
     let p = after-put-letters .put-letters in
     let q = after-item .item .given in
@@ -22,12 +41,12 @@ returns c =
 returns-2 : tie.Need-returns-2
 returns-2 c =
     let p = c .before .before .before .before .transpose in
-    does _ _ (c .before .before .before .before .before .before .before .enum-told .given .1) (λ k L. unfold outcomeOf in (p .ensures))
+    does _ _ (transpose-of-slice-known7 c .before .before .before .enum-told .given .1) (λ k L. unfold outcomeOf in (p .ensures))
 
 returns-3 : tie.Need-returns-3
 returns-3 c =
     let after-put-zero-steps = c .before .before .before .before in
-    let after-close = after-put-zero-steps .before .before .before .before .before .before .before in
+    let after-close = close-of-put-zero-steps after-put-zero-steps in
     let after-enum-told2 = after-close .before .before .before in
     let p = after-put-zero-steps .put-zero-steps in
     does _ _ (after-enum-told2 .enum-told2 .given .1) (star-left _ _ _ (after-close .close .ensures) (p .ensures))
@@ -35,7 +54,7 @@ returns-3 c =
 returns-4 : tie.Need-returns-4
 returns-4 c =
     let p = c .before .before .before .before .close2 in
-    does _ _ (c .before .before .before .before .before .before .before .enum-told3 .given .1) (λ k L. unfold outcomeOf asked in (rw (← L .size) (p .ensures)))
+    does _ _ (close2-of-slice-known13 c .before .before .before .enum-told3 .given .1) (λ k L. unfold outcomeOf asked in (rw (← L .size) (p .ensures)))
 
 returns-5 : tie.Need-returns-5
 returns-5 c =
@@ -47,12 +66,12 @@ returns-5 c =
 returns-6 : tie.Need-returns-6
 returns-6 c =
     let p = c .before .before .before .before .unite in
-    does _ _ (c .before .before .before .before .before .before .before .enum-told5 .given .1) (λ k L. unfold outcomeOf in (p .ensures))
+    does _ _ (unite-of-slice-known17 c .before .before .before .enum-told5 .given .1) (λ k L. unfold outcomeOf in (p .ensures))
 
 returns-7 : tie.Need-returns-7
 returns-7 c =
     let p = c .before .before .before .before .compose in
-    does _ _ (c .before .before .before .before .before .before .before .enum-told6 .given .1) (λ k L. unfold outcomeOf asked in (rw (← L .size) (p .ensures)))
+    does _ _ (compose-of-slice-known19 c .before .before .before .enum-told6 .given .1) (λ k L. unfold outcomeOf asked in (rw (← L .size) (p .ensures)))
 
 pub operate-spec : {M : Type 1} → statement M
 operate-spec =

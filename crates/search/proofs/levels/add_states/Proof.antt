@@ -10,23 +10,27 @@ use Rattle.search.proofs.FrontierLaws.{added-zero, added-past, added-mo
 use Rattle.search.proofs.levels.add_states.Statement.{statement}
 use Rattle.search.proofs.levels.add_states.Tie as tie
 
+-- The places that the needs come back to.
+abbrev start-of-else3 : tie.Else3 → tie.Start
+start-of-else3 p = let at-else1 = p .before .before .before .before .before in at-else1 .before .before
+
 -- there is a state to add
 state : (c : tie.Else1) → (q : ℕ) × (q < 64) × On (digit (c .before .before .args .entry .states) q)
 state c = some-digit 64 (c .before .before .args .entry .states) (omega arith) (omega arith)
 
-room : (c : tie.Else3) → c .before .before .before .before .before .before .before .args .entry .queued < 1024
+room : (c : tie.Else3) → (start-of-else3 c) .args .entry .queued < 1024
 room c =
     let else1 = c .before .before .before .before .before in
     let start = else1 .before .before in
     let s = start .args in
     let p = start .pre in
-    list-room (p .4) (s .entry .at) (s .entry .states) (p .3) (omega arith) (state else1) (p .1) (c .if3 .left)
+    list-room (p .listed) (s .entry .at) (s .entry .states) (p .at-below) (omega arith) (state else1) (p .next-long) (c .if3 .left)
 
 returns : tie.Need-returns
-returns c = (c .before .before .pre .4, added-zero _ _ _ _ (c .if1 .taken))
+returns c = (c .before .before .pre .listed, added-zero _ _ _ _ (c .if1 .taken))
 
 returns-2 : tie.Need-returns-2
-returns-2 c = (c .before .before .before .before .pre .4, added-past _ _ _ _ (c .if2 .taken))
+returns-2 c = (c .before .before .before .before .pre .listed, added-past _ _ _ _ (c .if2 .taken))
 
 returns-3 : tie.Need-returns-3
 returns-3 c =
@@ -34,7 +38,7 @@ returns-3 c =
     let start = else1 .before .before in
     let s = start .args in
     let p = start .pre in (
-      listed-old (p .4) (s .entry .at) (s .entry .states) (p .3) (omega arith) (state else1) (p .1) (omega arith),
+      listed-old (p .listed) (s .entry .at) (s .entry .states) (p .at-below) (omega arith) (state else1) (p .next-long) (omega arith),
       added-more _ _ _ _ (omega arith) (omega arith),
     )
 
@@ -53,7 +57,7 @@ returns-4 c =
     let start = else1 .before .before in
     let s = start .args in
     let p = start .pre in (
-      listed-new (p .4) (s .entry .at) (s .entry .states) (p .3) (omega arith) (state else1) (p .1) (c .if3 .left) (p .2),
+      listed-new (p .listed) (s .entry .at) (s .entry .states) (p .at-below) (omega arith) (state else1) (p .next-long) (c .if3 .left) (p .list-long),
       added-more _ _ _ _ (omega arith) (omega arith),
     )
 

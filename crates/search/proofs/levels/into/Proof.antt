@@ -10,59 +10,106 @@ use Rattle.arcs.specs.Arcs.{arcFrom, arcTo, arcLetter}
 use Rattle.arcs.specs.Index.{Cursor}
 use Rattle.arcs.specs.IndexLaws.{next-falls, cursor-next}
 use Rattle.search.specs.Frontiers.{Levelling, Listed}
+use Rattle.search.specs.declared.Entry.{Entry}
 use Rattle.search.proofs.LevellingLaws.{levelling-first, levelling-more, levelling-done}
 use Rattle.search.proofs.levels.into.Statement.{statement}
 use Rattle.search.proofs.levels.into.Tie as tie
 
+-- what holds whenever the loop is at its head
+record Loop (arcs predecessors enter seen next₀ list₀ : List ℕ) (entry : Entry) (next list : List ℕ) (queued cursor : ℕ) : Type 0 where
+  next-as-long : length next ≡ length next₀
+  list-as-long : length list ≡ length list₀
+  stands : Cursor (arcTo arcs) (length arcs) (entry .at) cursor
+  listed : Listed list queued (entry .n) next
+  levelling : (cur records : List ℕ) (i : ℕ) → entry .at ≡ getD records i 0 → entry .states ≡ getD cur (entry .at) 0
+      → Levelling arcs predecessors enter cur seen (entry .n) (length arcs) records i (length arcs) next₀
+      → Levelling arcs predecessors enter cur seen (entry .n) (length arcs) records i cursor next
+
 abbrev Inv-loop : tie.InvT-loop
 Inv-loop arcs index predecessors enter seen next₀ list₀ entry n listed₀ cursor₀ next list queued cursor =
-    (length next ≡ length next₀) × (length list ≡ length list₀) × Cursor (arcTo arcs) (length arcs) (entry .at) cursor × Listed list queued (entry .n) next
-    × ((cur records : List ℕ) (i : ℕ) → entry .at ≡ getD records i 0 → entry .states ≡ getD cur (entry .at) 0
-    → Levelling arcs predecessors enter cur seen (entry .n) (length arcs) records i (length arcs) next₀
-    → Levelling arcs predecessors enter cur seen (entry .n) (length arcs) records i cursor next)
+    Loop arcs predecessors enter seen next₀ list₀ entry next list queued cursor
 
 abbrev μ-loop : tie.MeasureT-loop
 μ-loop arcs index predecessors enter seen next₀ list₀ entry n listed₀ cursor₀ next list queued cursor = cursor
 
+-- The places that the needs come back to.
+abbrev start-of-loop : tie.At-loop Inv-loop μ-loop → tie.Start Inv-loop μ-loop
+start-of-loop p =
+    let at-first-arc = p .before in
+    let at-shared-slice-known3 = at-first-arc .before .before .before .before .before in
+    at-shared-slice-known3 .before .before .before
+
+abbrev start-of-slice-known2 : tie.After-slice-known2 Inv-loop μ-loop → tie.Start Inv-loop μ-loop
+start-of-slice-known2 p = let at-shared-slice-known2 = p .before .before .before .before .before in at-shared-slice-known2 .before .before
+
+abbrev start-of-first-arc : tie.After-first-arc Inv-loop μ-loop → tie.Start Inv-loop μ-loop
+start-of-first-arc p = start-of-slice-known2 (p .before)
+
+abbrev loop-of-spread : tie.After-spread Inv-loop μ-loop → tie.At-loop Inv-loop μ-loop
+loop-of-spread p = p .before .before .before .before .before
+
+abbrev spread-of-add-states : tie.After-add-states Inv-loop μ-loop → tie.After-spread Inv-loop μ-loop
+spread-of-add-states p = p .before .before .before .before
+
+abbrev spread-of-next-arc : tie.After-next-arc Inv-loop μ-loop → tie.After-spread Inv-loop μ-loop
+spread-of-next-arc p = spread-of-add-states (p .before .before .before .before .before)
+
 -- the arc at which the cursor stands
-stands : (c : tie.In-loop Inv-loop μ-loop)
-    → let start = c .before .before .before .before .before .before .before .before .before .before in
+standing : (c : tie.In-loop Inv-loop μ-loop)
+    → let start = start-of-loop (c .before) in
     (0 < c .before .loop .cursor) × (c .before .loop .cursor ≤ length (start .args .arcs .now))
-stands c = (omega arith, c .before .loop .inv .2 .0)
+standing c = (omega arith, c .before .loop .inv .stands .0)
 
 first-arc-requires : tie.Need-first-arc-requires Inv-loop μ-loop
 first-arc-requires c κs =
-    let start = c .before .before .before .before .before .before .before in
-    omega (arith, start .pre .1, start .pre .4)
+    let start = start-of-slice-known2 c in
+    omega (arith, start .pre .1 .by-index .long, start .pre .1 .queue .at-below)
 
 loop-holds : tie.Need-loop-holds Inv-loop μ-loop
 loop-holds c =
-    let p = c .before .before .before .before .before .before .before .before .pre in
-    rw (c .first-arc .ensures) (refl, refl, p .9 .first-at _ (p .4), p .10, λ cur records i at e L. levelling-first at (p .9) L)
+    let p = start-of-first-arc c .pre .1 in
+    let X = p .by-index .indexed in
+    record {
+      next-as-long = refl;
+      list-as-long = refl;
+      stands = rw (c .first-arc .ensures) (X .first-at _ (p .queue .at-below));
+      listed = p .queue .listed;
+      levelling = rw (c .first-arc .ensures) (λ cur records i at e L. levelling-first at X L);
+    }
 
 shared-slice-read-arc : tie.Need-shared-slice-read-arc Inv-loop μ-loop
-shared-slice-read-arc c = omega (arith, stands (c .before))
+shared-slice-read-arc c = omega (arith, standing (c .before))
 
 cast-arc : tie.Need-cast-arc Inv-loop μ-loop
 cast-arc c = omega (arith, c .shared-slice-known6 .given (c .before .before .loop .cursor - 1) .fits)
 
 add-states-requires : tie.Need-add-states-requires Inv-loop μ-loop
 add-states-requires c κs =
-    let at-loop = c .before .before .before .before .before .before .before .before in
-    let start = at-loop .before .before .before .before .before .before .before .before .before in
-    (start .pre .6, omega arith, omega arith, omega arith, at-loop .loop .inv .3)
+    let at-loop = loop-of-spread (c .before .before .before) in
+    let start = start-of-loop at-loop in
+    let q = start .pre .1 .queue in
+    let l = at-loop .loop .inv in
+    record {
+      records = q .records;
+      at-below = omega arith;
+      next-long = omega (arith, l .next-as-long, q .next-long);
+      list-long = omega (arith, l .list-as-long, q .list-long);
+      listed = l .listed;
+    }
 
 next-arc-requires : tie.Need-next-arc-requires Inv-loop μ-loop
 next-arc-requires c κs =
-    let in-loop = c .before .before .before .before .before .before .before .before .before .before .before .before in
-    let start = in-loop .before .before .before .before .before .before .before .before .before .before in
-    (omega (arith, stands in-loop, start .pre .1), omega (arith, stands in-loop))
+    let in-loop = spread-of-add-states (c .before .before .before .before) .before .before .before .before in
+    let start = start-of-loop (in-loop .before) in
+    let X = start .pre .1 .by-index in
+    (omega (arith, standing in-loop, X .long), omega (arith, standing in-loop, X .few))
 
 loop-less : tie.Need-loop-less Inv-loop μ-loop
 loop-less c =
-    let in-loop = c .before .before .before .before .before .before .before .before .before .before .before .before .before in
-    let start = in-loop .before .before .before .before .before .before .before .before .before .before in
-    let z = stands in-loop in omega (arith, c .next-arc .ensures, next-falls (start .pre .9) (in-loop .before .loop .inv .2) (z .0))
+    let in-loop = spread-of-next-arc c .before .before .before .before in
+    let start = start-of-loop (in-loop .before) in
+    let z = standing in-loop in
+    omega (arith, c .next-arc .ensures, next-falls (start .pre .1 .by-index .indexed) (in-loop .before .loop .inv .stands) (z .0))
 
 loop-again : tie.Need-loop-again Inv-loop μ-loop
 unfolding arcFrom arcTo arcLetter
@@ -70,33 +117,34 @@ loop-again c =
     let after-add-states = c .before .before .before .before .before in
     let known8 = after-add-states .before .before .before in
     let in-loop = known8 .before .before .before .before .before in
-    let start = in-loop .before .before .before .before .before .before .before .before .before .before in
+    let start = start-of-loop (in-loop .before) in
     let s = start .args in
-    let X = start .pre .9 in
+    let X = start .pre .1 .by-index .indexed in
     let l = in-loop .before .loop in
-    let hp = stands in-loop .0 in
+    let hp = standing in-loop .0 in
     let v = known8 .before .spread in
     let word = known8 .shared-slice-known8 .given (arcFrom (s .arcs .now) (l .cursor - 1)) .fits in
     let A = after-add-states .add-states in
-    rw (c .next-arc .ensures) (
-      A .kept .0 ∙ l .inv .0,
-      A .kept .1 .0 ∙ l .inv .1,
-      cursor-next X (l .inv .2) hp,
-      A .ensures .0,
-      λ cur records i at e L. levelling-more at X (l .inv .2) hp (l .inv .4 cur records i at e L) _ (v .result) e (v .ensures) word (A .ensures .1),
-    )
+    record {
+      next-as-long = A .kept .0 ∙ l .inv .next-as-long;
+      list-as-long = A .kept .1 .0 ∙ l .inv .list-as-long;
+      stands = rw (c .next-arc .ensures) (cursor-next X (l .inv .stands) hp);
+      listed = A .ensures .0;
+      levelling = rw (c .next-arc .ensures) (λ cur records i at e L.
+          levelling-more at X (l .inv .stands) hp (l .inv .levelling cur records i at e L) _ (v .result) e (v .ensures) word (A .ensures .1));
+    }
 
 same-length : tie.Need-same-length Inv-loop μ-loop
-same-length c = c .before .loop .inv .0
+same-length c = c .before .loop .inv .next-as-long
 
 same-length-2 : tie.Need-same-length-2 Inv-loop μ-loop
-same-length-2 c = c .before .loop .inv .1
+same-length-2 c = c .before .loop .inv .list-as-long
 
 returns : tie.Need-returns Inv-loop μ-loop
 returns c =
     let l = c .before .loop in
     let z : l .cursor ≡ 0 = omega arith in
-    (l .inv .3, λ cur records i at e L. levelling-done (rw z at (l .inv .4 cur records i at e L)))
+    (l .inv .listed, λ cur records i at e L. levelling-done (rw z at (l .inv .levelling cur records i at e L)))
 
 pub into-spec : {M : Type 1} → statement M
 into-spec =

@@ -12,6 +12,10 @@ use Rattle.search.proofs.ReachLaws.{ended}
 use Rattle.search.proofs.reach.reached.Statement.{statement}
 use Rattle.search.proofs.reach.reached.Tie as tie
 
+-- The places that the needs come back to.
+abbrev start-of-reach : tie.After-reach → tie.Start
+start-of-reach p = let at-arcs-of = p .before .before .before .before in at-arcs-of .before .before .before .before .before
+
 -- the words of the arcs, and how many of them count
 long : (c : tie.After-arcs-of) → length (c .arcs-of .last .1 .1 .0) ≡ 8192
 long c = search needs
@@ -26,7 +30,12 @@ reach-requires : tie.Need-reach-requires
 reach-requires c κs =
     let after-arcs-of = c .before .before .before in
     let p = after-arcs-of .before .before .before .before .before .pre in
-    (omega (arith, part-long after-arcs-of, after-arcs-of .arcs-of .ensures .0), p .1, p .2, p .3, p .4)
+    record {
+      few = omega (arith, part-long after-arcs-of, after-arcs-of .arcs-of .ensures .0, p .few-links);
+      tables = p .tables;
+      records = p .records;
+      from-below = p .from-below;
+    }
 
 -- those that count, alone, are the crossings
 crossed : (c : tie.After-arcs-of)
@@ -40,8 +49,8 @@ crossed c =
 
 returns : tie.Need-returns
 returns c =
-    let p = c .before .before .before .before .before .before .before .before .before .pre in
-    λ g e ps f size I S l T u. ended (setting size I (p .3) S (crossed (c .before .before .before .before)) T l) I (p .4) u (c .reach .ensures)
+    let p = start-of-reach c .pre in
+    λ g e ps f size I S l T u. ended (setting size I (p .records) S (crossed (c .before .before .before .before)) T l) I (p .from-below) u (c .reach .ensures)
 
 pub reached-spec : {M : Type 1} → statement M
 reached-spec =

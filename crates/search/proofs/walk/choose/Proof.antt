@@ -21,20 +21,34 @@ Inv-loop arcs index enter work seen aim n distance best₀ cursor₀ best cursor
 abbrev μ-loop : tie.MeasureT-loop
 μ-loop arcs index enter work seen aim n distance best₀ cursor₀ best cursor = cursor
 
+-- The places that the needs come back to.
+abbrev start-of-first-arc : tie.After-first-arc Inv-loop μ-loop → tie.Start Inv-loop μ-loop
+start-of-first-arc p = let at-shared-slice-known = p .before .before .before .before .before in at-shared-slice-known .before
+
+abbrev start-of-loop : tie.At-loop Inv-loop μ-loop → tie.Start Inv-loop μ-loop
+start-of-loop p = start-of-first-arc (p .before)
+
+abbrev kept-of-better : tie.After-better Inv-loop μ-loop → tie.After-kept Inv-loop μ-loop
+kept-of-better p = p .before
+
+abbrev kept-of-next-arc : tie.After-next-arc Inv-loop μ-loop → tie.After-kept Inv-loop μ-loop
+kept-of-next-arc p = p .before .before
+
 first-arc-requires : tie.Need-first-arc-requires Inv-loop μ-loop
 first-arc-requires c κs =
     let start = c .before .before .before .before .before in
-    omega (arith, start .pre .1, start .pre .6)
+    omega (arith, start .pre .by-index .long, start .pre .at-below)
 
 loop-holds : tie.Need-loop-holds Inv-loop μ-loop
 loop-holds c =
-    let p = c .before .before .before .before .before .before .pre in
-    let T = p .7 .first-at _ (p .6) in
-    rw (c .first-arc .ensures) (T, chosen-first (chosen-none _ _ _ _ _ _ _ _ _) (T .0) (before-first (p .7)))
+    let p = start-of-first-arc c .pre in
+    let X = p .by-index .indexed in
+    let T = X .first-at _ (p .at-below) in
+    rw (c .first-arc .ensures) (T, chosen-first (chosen-none _ _ _ _ _ _ _ _ _) (T .0) (before-first X))
 
 -- the arc at which the cursor stands
 stands : (c : tie.In-loop Inv-loop μ-loop)
-    → let start = c .before .before .before .before .before .before .before .before in
+    → let start = start-of-loop (c .before) in
     (0 < c .before .loop .cursor) × (c .before .loop .cursor ≤ length (start .args .arcs .now))
 stands c = (omega arith, c .before .loop .inv .0 .0)
 
@@ -46,24 +60,25 @@ cast-arc c = omega (arith, c .shared-slice-known6 .given (c .before .before .loo
 
 next-arc-requires : tie.Need-next-arc-requires Inv-loop μ-loop
 next-arc-requires c κs =
-    let in-loop = c .before .before .before .before .before .before in
-    let start = in-loop .before .before .before .before .before .before .before .before in
-    (omega (arith, stands in-loop, start .pre .1), omega (arith, stands in-loop))
+    let in-loop = kept-of-better c .before .before .before .before .before in
+    let start = start-of-loop (in-loop .before) in
+    let X = start .pre .by-index in
+    (omega (arith, stands in-loop, X .long), omega (arith, stands in-loop, X .few))
 
 loop-less : tie.Need-loop-less Inv-loop μ-loop
 loop-less c =
-    let in-loop = c .before .before .before .before .before .before .before in
-    let start = in-loop .before .before .before .before .before .before .before .before in
-    omega (arith, c .next-arc .ensures, stands in-loop, next-falls (start .pre .7) (in-loop .before .loop .inv .0) (stands in-loop .0))
+    let in-loop = kept-of-next-arc c .before .before .before .before .before in
+    let start = start-of-loop (in-loop .before) in
+    omega (arith, c .next-arc .ensures, stands in-loop, next-falls (start .pre .by-index .indexed) (in-loop .before .loop .inv .0) (stands in-loop .0))
 
 loop-again : tie.Need-loop-again Inv-loop μ-loop
 unfolding arcFrom arcTo arcLetter
 loop-again c =
     let after-kept = c .before .before in
     let in-loop = after-kept .before .before .before .before .before in
-    let start = in-loop .before .before .before .before .before .before .before .before in
+    let start = start-of-loop (in-loop .before) in
     let l = in-loop .before .loop in
-    let X = start .pre .7 in
+    let X = start .pre .by-index .indexed in
     let C = l .inv .0 in
     let z = stands in-loop in
     rw (c .next-arc .ensures) (

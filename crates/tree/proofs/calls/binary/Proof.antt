@@ -20,9 +20,22 @@ use Rattle.tree.proofs.OperationLaws.{two-lent, two-set}
 use Rattle.tree.proofs.calls.binary.Statement.{statement}
 use Rattle.tree.proofs.calls.binary.Tie as tie
 
+-- The places that the needs come back to.
+abbrev start-of-refusal : tie.After-refusal → tie.Start
+start-of-refusal p = let at-shared-slice-known = p .before .before .before .before .before in at-shared-slice-known .before
+
+abbrev start-of-copy-u64 : tie.After-copy-u64 → tie.Start
+start-of-copy-u64 p = start-of-refusal (p .before .before .before)
+
+abbrev copy-u642-of-made : tie.After-made → tie.After-copy-u642
+copy-u642-of-made p = let at-tree-of = p .before .before .before .before in at-tree-of .before .before .before
+
+abbrev made-of-settle : tie.After-settle → tie.After-made
+made-of-settle p = p .before .before .before .before .before
+
 -- no cause was found
 met-all : (c : tie.Else1)
-    → let start = c .before .before .before .before .before .before .before in
+    → let start = start-of-refusal (c .before) in
     (1 ≤ start .args .n) × (start .args .n ≤ 1024) × PairsBelow (start .args .n) []
     × (WellFormed (start .args .n) (start .args .a .now) × WellFormed (start .args .n) (start .args .b .now))
     × (32 * treeUnit (start .args .n) ≤ length (start .args .work .now))
@@ -30,7 +43,7 @@ met-all c = met _ _ _ _ _ (c .before .refusal .ensures) (c .if1 .left)
 
 returns : tie.Need-returns
 returns c =
-    let a = c .before .before .before .before .before .before .before .args in
+    let a = start-of-refusal (c .before) .args in
     refuse (a .n) [] (a .a .now ∷ a .b .now ∷ []) (length (a .work .now))
     (treeOfTwo (λ x y. outcome (a .operation) (a .n) none (sensed (a .a-sense) x) (sensed (a .b-sense) y)) (a .n) (a .a .now) (a .b .now))
     (a .out .now) (a .out .now) _
@@ -44,7 +57,7 @@ copy-u64-requires c κs =
 copy-u64-requires-2 : tie.Need-copy-u64-requires-2
 copy-u64-requires-2 c κs =
     let after-copy = c .before .before .before in
-    let start = after-copy .before .before .before .before .before .before .before .before .before in
+    let start = start-of-copy-u64 after-copy in
     let m = met-all (after-copy .before .before) in
     let k : length (after-copy .copy-u64 .last .1 .0) ≡ length (start .args .work .now) = after-copy .copy-u64 .kept .1 .0 in
     omega (arith, k, formed-most (m .3 .0), formed-most (m .3 .1), m .4)
@@ -54,7 +67,7 @@ made-requires c κs =
     let after-tree-of = c .before .before .before in
     let after-copy2 = after-tree-of .before .before .before in
     let after-copy = after-copy2 .before .before .before .before in
-    let start = after-copy .before .before .before .before .before .before .before .before .before in
+    let start = start-of-copy-u64 after-copy in
     let a = start .args in
     let m = met-all (after-copy .before .before) in
     let k : length (after-copy .copy-u64 .last .1 .0) ≡ length (a .work .now) = after-copy .copy-u64 .kept .1 .0 in
@@ -66,18 +79,18 @@ made-requires c κs =
 settle-requires : tie.Need-settle-requires
 settle-requires c κs =
     let after-made = c .before .before .before .before in
-    let after-copy2 = after-made .before .before .before .before .before .before .before in
+    let after-copy2 = copy-u642-of-made after-made in
     let k : length (after-made .made .last .1 .0) ≡ length (after-copy2 .copy-u642 .last .1 .0) = after-made .made .kept .1 .0 in
     omega (arith, k, after-made .made .ensures .0)
 
 returns-2 : tie.Need-returns-2
 returns-2 c =
-    let after-made = c .before .before .before .before .before .before .before in
+    let after-made = made-of-settle (c .before .before) in
     let after-tree-of2 = after-made .before .before .before in
     let after-copy2 = after-tree-of2 .before .before .before .before in
     let after-copy = after-copy2 .before .before .before .before in
     let else1 = after-copy .before .before in
-    let start = else1 .before .before .before .before .before .before .before in
+    let start = start-of-refusal (else1 .before) in
     let a = start .args in
     let m = met-all else1 in
     let v = m .3 .0 in

@@ -9,10 +9,15 @@ use Rattle.tree.proofs.AnswerLaws.{answer-as}
 use Rattle.tree.proofs.calls.closure.Statement.{statement}
 use Rattle.tree.proofs.calls.closure.Tie as tie
 
+-- The places that the needs come back to.
+abbrev start-of-unary : tie.After-unary → tie.Start
+start-of-unary p = let at-shared-slice-known = p .before .before .before .before .before in at-shared-slice-known .before
+
 returns : tie.Need-returns
 returns c =
-    let a = c .before .before .before .before .before .before .before .before .before .before .args in
-    answer-as (ap (treeWords (a .n)) (ap (closure (a .n)) (union-none (setIn (a .n) (a .a .now))))) (c .before .before .before .before .unary .ensures)
+    let after-unary = c .before .before .before .before in
+    let a = start-of-unary after-unary .args in
+    answer-as (ap (treeWords (a .n)) (ap (closure (a .n)) (union-none (setIn (a .n) (a .a .now))))) (after-unary .unary .ensures)
 
 pub closure-spec : {M : Type 1} → statement M
 closure-spec = tie.close (tie.spec (λ c κs. search needs) (λ c. search needs) (λ c. search needs) returns)

@@ -6,9 +6,13 @@ use Rattle.tree.proofs.OperationLaws.{rows-none, from-none, set-shown}
 use Rattle.tree.proofs.calls.list_pairs.Statement.{statement}
 use Rattle.tree.proofs.calls.list_pairs.Tie as tie
 
+-- The places that the needs come back to.
+abbrev load-of-hand-over : tie.After-hand-over → tie.After-load
+load-of-hand-over p = p .before .before .before .before
+
 returns : tie.Need-returns
 returns c =
-    let after-load = c .before .before .before .before .before .before in
+    let after-load = load-of-hand-over (c .before .before) in
     let a = after-load .before .before .before .before .args in
     λ s is e.
     set-shown (a .n) s _ (a .out .now) _ (omega arith) is (from-none s _ (after-load .load .ensures s noPairs is e rows-none))

@@ -7,10 +7,14 @@ use Rattle.tree.proofs.OperationLaws.{none-lent, none-tree-at}
 use Rattle.tree.proofs.calls.made.Statement.{statement}
 use Rattle.tree.proofs.calls.made.Tie as tie
 
+-- The places that the needs come back to.
+abbrev start-of-operate : tie.After-operate → tie.Start
+start-of-operate p = let at-slice-known = p .before .before .before .before .before in at-slice-known .before
+
 returns : tie.Need-returns
 returns c =
     let after-operate = c .before .before .before in
-    let start = after-operate .before .before .before .before .before .before in
+    let start = start-of-operate after-operate in
     let g = start .args in
     let o = after-operate .operate in
     let r : Room (g .n) (g .term) (length (g .work .now)) 16 16384 = record { trees = start .pre; records = refl; bits = refl } in (

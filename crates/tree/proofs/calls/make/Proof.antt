@@ -22,14 +22,16 @@ use Rattle.tree.proofs.calls.make.Tie as tie
 
 -- no cause was found
 met-all : (c : tie.Else1)
-    → let start = c .before .before .before .before .before .before in
+    → let earlier = c .before .before .before .before .before in
+    let start = earlier .before in
     (1 ≤ start .args .n) × (start .args .n ≤ 1024) × PairsBelow (start .args .n) (start .args .pairs .now)
     × (WellFormed (start .args .n) [] × WellFormed (start .args .n) []) × (32 * treeUnit (start .args .n) ≤ length (start .args .work .now))
 met-all c = met _ _ _ _ _ (c .before .refusal .ensures) (c .if1 .left)
 
 returns : tie.Need-returns
 returns c =
-    let a = c .before .before .before .before .before .before .args in
+    let earlier = c .before .before .before .before .before in
+    let a = earlier .before .args in
     refuse (a .n) (a .pairs .now) [] (length (a .work .now)) (treeWords (a .n) (setOf (a .pairs .now))) (a .out .now) (a .out .now) _
     (c .before .refusal .ensures ∙ as-good (a .n) (a .pairs .now) _ _ (length (a .work .now)) (none-more (a .n))) (c .if1 .taken) refl
 
@@ -42,15 +44,18 @@ made-requires c κs =
 settle-requires : tie.Need-settle-requires
 settle-requires c κs =
     let after-made = c .before .before .before .before in
-    let start = after-made .before .before .before .before .before .before .before .before .before in
+    let earlier = after-made .before .before .before .before .before in
+    let start = earlier .before .before .before .before in
     let k : length (after-made .made .last .1 .0) ≡ length (start .args .work .now) = after-made .made .kept .1 .0 in
     omega (arith, k, after-made .made .ensures .0)
 
 returns-2 : tie.Need-returns-2
 returns-2 c =
-    let after-made = c .before .before .before .before .before .before .before in
+    let earlier = c .before .before .before .before .before in
+    let after-made = earlier .before .before in
     let after-no-operand = after-made .before .before in
-    let start = after-no-operand .before .before .before .before .before .before .before in
+    let earlier′ = after-no-operand .before .before .before .before .before in
+    let start = earlier′ .before .before in
     let a = start .args in
     let m = met-all (after-no-operand .before) in
     let ps = a .pairs .now in

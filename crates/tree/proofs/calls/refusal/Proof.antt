@@ -12,19 +12,29 @@ use Rattle.tree.proofs.AnswerLaws.{below-test, formed-test, first-bad, 
 use Rattle.tree.proofs.calls.refusal.Statement.{statement}
 use Rattle.tree.proofs.calls.refusal.Tie as tie
 
+-- The places that the needs come back to.
+abbrev start-of-pairs-below : tie.After-pairs-below → tie.Start
+start-of-pairs-below p = let at-shared-slice-known = p .before .before .before .before .before in at-shared-slice-known .before
+
+abbrev start-of-well-formed : tie.After-well-formed → tie.Start
+start-of-well-formed p = start-of-pairs-below (p .before .before)
+
+abbrev start-of-well-formed2 : tie.After-well-formed2 → tie.Start
+start-of-well-formed2 p = start-of-well-formed (p .before .before)
+
 -- the tests that are passed
 below : (c : tie.Else3)
-    → let start = c .before .before .before .before .before .before .before in
+    → let start = start-of-pairs-below (c .before) in
     allBelow (start .args .n) (start .args .pairs .now) ≡ true
 below c = sym (below-test _ _ _ (c .before .pairs-below .ensures)) ∙ not-false (c .before .pairs-below .result) (c .if3 .left)
 
 first : (c : tie.Else4)
-    → let start = c .before .before .before .before .before .before .before .before .before in
+    → let start = start-of-well-formed (c .before) in
     formed (start .args .n) (start .args .a .now) ≡ true
 first c = sym (formed-test _ _ _ (c .before .well-formed .ensures)) ∙ not-false (c .before .well-formed .result) (c .if4 .left)
 
 second : (c : tie.Else5)
-    → let start = c .before .before .before .before .before .before .before .before .before .before .before in
+    → let start = start-of-well-formed2 (c .before) in
     formed (start .args .n) (start .args .b .now) ≡ true
 second c = sym (formed-test _ _ _ (c .before .well-formed2 .ensures)) ∙ not-false (c .before .well-formed2 .result) (c .if5 .left)
 
@@ -38,20 +48,20 @@ returns-2 c =
 
 returns-3 : tie.Need-returns-3
 returns-3 c =
-    let a = c .before .before .before .before .before .before .before .args in
+    let a = start-of-pairs-below (c .before) .args in
     sym (lent-pairs (a .n) _ _ _ (omega arith) (omega arith) (sym (below-test _ _ _ (c .before .pairs-below .ensures))
     ∙ not-true (c .before .pairs-below .result) (c .if3 .taken)))
 
 returns-4 : tie.Need-returns-4
 returns-4 c =
-    let a = c .before .before .before .before .before .before .before .before .before .args in
+    let a = start-of-well-formed (c .before) .args in
     sym (lent-trees (a .n) _ _ _ (omega arith) (omega arith) (below (c .before .before))
     (first-bad (a .n) (a .a .now) (a .b .now) (sym (formed-test _ _ _ (c .before .well-formed .ensures))
     ∙ not-true (c .before .well-formed .result) (c .if4 .taken))))
 
 returns-5 : tie.Need-returns-5
 returns-5 c =
-    let a = c .before .before .before .before .before .before .before .before .before .before .before .args in
+    let a = start-of-well-formed2 (c .before) .args in
     sym (lent-trees (a .n) _ _ _ (omega arith) (omega arith) (below (c .before .before .before .before))
     (second-bad (a .n) (a .a .now) (a .b .now) (first (c .before .before))
     (sym (formed-test _ _ _ (c .before .well-formed2 .ensures)) ∙ not-true (c .before .well-formed2 .result) (c .if5 .taken))))
@@ -62,7 +72,7 @@ mul-if6 c = omega (arith, c .tree-unit .ensures .2)
 returns-6 : tie.Need-returns-6
 returns-6 c =
     let else4 = c .before .before .before .before in
-    let start = else4 .before .before .before .before .before .before .before .before .before in
+    let start = start-of-well-formed (else4 .before) in
     let a = start .args in
     sym (lent-work (a .n) _ _ _ (omega arith) (omega arith) (below (else4 .before .before))
     (both-good (a .n) (a .a .now) (a .b .now) (first else4) (second (c .before .before)))
@@ -71,7 +81,7 @@ returns-6 c =
 returns-7 : tie.Need-returns-7
 returns-7 c =
     let else4 = c .before .before .before .before in
-    let start = else4 .before .before .before .before .before .before .before .before .before in
+    let start = start-of-well-formed (else4 .before) in
     let a = start .args in
     sym (lent-none (a .n) _ _ _ (omega arith) (omega arith) (below (else4 .before .before))
     (both-good (a .n) (a .a .now) (a .b .now) (first else4) (second (c .before .before)))

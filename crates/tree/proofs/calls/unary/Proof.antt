@@ -23,16 +23,26 @@ use Rattle.tree.proofs.OperationLaws.{one-lent, one-set}
 use Rattle.tree.proofs.calls.unary.Statement.{statement}
 use Rattle.tree.proofs.calls.unary.Tie as tie
 
+-- The places that the needs come back to.
+abbrev start-of-refusal : tie.After-refusal → tie.Start
+start-of-refusal p = let at-shared-slice-known = p .before .before .before .before .before in at-shared-slice-known .before
+
+abbrev start-of-copy-u64 : tie.After-copy-u64 → tie.Start
+start-of-copy-u64 p = start-of-refusal (p .before .before .before)
+
+abbrev copy-u64-of-made : tie.After-made → tie.After-copy-u64
+copy-u64-of-made p = let at-no-operand = p .before .before .before .before in at-no-operand .before .before .before
+
 -- no cause was found
 met-all : (c : tie.Else1)
-    → let start = c .before .before .before .before .before .before .before in
+    → let start = start-of-refusal (c .before) in
     (1 ≤ start .args .n) × (start .args .n ≤ 1024) × PairsBelow (start .args .n) []
     × (WellFormed (start .args .n) (start .args .a .now) × WellFormed (start .args .n) []) × (32 * treeUnit (start .args .n) ≤ length (start .args .work .now))
 met-all c = met _ _ _ _ _ (c .before .refusal .ensures) (c .if1 .left)
 
 returns : tie.Need-returns
 returns c =
-    let a = c .before .before .before .before .before .before .before .args in
+    let a = start-of-refusal (c .before) .args in
     refuse (a .n) [] (a .a .now ∷ []) (length (a .work .now))
     (treeWords (a .n) (outcome (a .operation) (a .n) none noPairs (sensed (a .sense) (setIn (a .n) (a .a .now))))) (a .out .now) (a .out .now) _
     (c .before .refusal .ensures ∙ as-good (a .n) [] _ _ (length (a .work .now)) (one-more (a .n) (a .a .now))) (c .if1 .taken) refl
@@ -46,7 +56,7 @@ made-requires : tie.Need-made-requires
 made-requires c κs =
     let after-no-operand = c .before .before .before in
     let after-copy = after-no-operand .before .before .before in
-    let start = after-copy .before .before .before .before .before .before .before .before .before in
+    let start = start-of-copy-u64 after-copy in
     let a = start .args in
     let m = met-all (after-copy .before .before) in
     let k : length (after-copy .copy-u64 .last .1 .0) ≡ length (a .work .now) = after-copy .copy-u64 .kept .1 .0 in
@@ -57,17 +67,19 @@ made-requires c κs =
 settle-requires : tie.Need-settle-requires
 settle-requires c κs =
     let after-made = c .before .before .before .before in
-    let after-copy = after-made .before .before .before .before .before .before .before in
+    let after-copy = copy-u64-of-made after-made in
     let k : length (after-made .made .last .1 .0) ≡ length (after-copy .copy-u64 .last .1 .0) = after-made .made .kept .1 .0 in
     omega (arith, k, after-made .made .ensures .0)
 
 returns-2 : tie.Need-returns-2
 returns-2 c =
-    let after-made = c .before .before .before .before .before .before .before in
+    let after-settle = c .before .before in
+    let after-made = after-settle .before .before .before .before .before in
     let after-tree-of = after-made .before .before .before in
     let after-copy = after-tree-of .before .before .before .before in
     let else1 = after-copy .before .before in
-    let start = else1 .before .before .before .before .before .before .before in
+    let earlier = else1 .before .before .before in
+    let start = earlier .before .before .before .before in
     let a = start .args in
     let m = met-all else1 in
     let v = m .3 .0 in

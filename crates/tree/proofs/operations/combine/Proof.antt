@@ -8,19 +8,65 @@ use Rattle.tree.specs.InnerLaws.{valued-set}
 use Rattle.tree.proofs.operations.combine.Statement.{statement}
 use Rattle.tree.proofs.operations.combine.Tie as tie
 
+-- The places that the needs come back to.
+abbrev start-of-match-keys2 : tie.At-match-keys2 → tie.Start
+start-of-match-keys2 p = let at-shared-slice-known2 = p .before .before .before .before .before in at-shared-slice-known2 .before .before
+
+abbrev start-of-match-keys3 : tie.At-match-keys3 → tie.Start
+start-of-match-keys3 p = let at-shared-slice-known2 = p .before .before .before .before .before in at-shared-slice-known2 .before .before
+
+abbrev start-of-match-keys4 : tie.At-match-keys4 → tie.Start
+start-of-match-keys4 p = let at-shared-slice-known2 = p .before .before .before .before .before in at-shared-slice-known2 .before .before
+
+abbrev start-of-with-second : tie.After-with-second → tie.Start
+start-of-with-second p = start-of-match-keys2 (p .before .before .before)
+
+abbrev start-of-with-second2 : tie.After-with-second2 → tie.Start
+start-of-with-second2 p = start-of-match-keys3 (p .before .before .before)
+
+abbrev start-of-with-second3 : tie.After-with-second3 → tie.Start
+start-of-with-second3 p = start-of-match-keys4 (p .before .before .before)
+
+abbrev load2-of-close-rows : tie.After-close-rows → tie.After-load2
+load2-of-close-rows p = p .before .before .before .before
+
+abbrev start-of-load2 : tie.After-load2 → tie.Start
+start-of-load2 p =
+    let at-match-keys5 = p .before .before .before in
+    let at-shared-slice-known2 = at-match-keys5 .before .before .before .before .before in
+    at-shared-slice-known2 .before .before
+
+abbrev load3-of-set-diagonal : tie.After-set-diagonal → tie.After-load3
+load3-of-set-diagonal p = p .before .before .before .before
+
+abbrev start-of-load3 : tie.After-load3 → tie.Start
+start-of-load3 p =
+    let at-match-keys6 = p .before .before .before in
+    let at-shared-slice-known2 = at-match-keys6 .before .before .before .before .before in
+    at-shared-slice-known2 .before .before
+
+abbrev close-rows2-of-set-diagonal2 : tie.After-set-diagonal2 → tie.After-close-rows2
+close-rows2-of-set-diagonal2 p = p .before .before .before .before
+
+abbrev start-of-load4 : tie.After-load4 → tie.Start
+start-of-load4 p =
+    let at-match-keys7 = p .before .before .before in
+    let at-shared-slice-known2 = at-match-keys7 .before .before .before .before .before in
+    at-shared-slice-known2 .before .before
+
 with-second-requires : tie.Need-with-second-requires
 with-second-requires c κs =
-    let start = c .before .before .before .before .before .before .before .before .before in
+    let start = start-of-match-keys2 (c .before .before) in
     (start .pre .0, rw (c .before .enum-told2 .given .1) intersects, start .pre .2)
 
 with-second-requires-2 : tie.Need-with-second-requires-2
 with-second-requires-2 c κs =
-    let start = c .before .before .before .before .before .before .before .before .before in
+    let start = start-of-match-keys3 (c .before .before) in
     (start .pre .0, rw (c .before .enum-told3 .given .1) differs, start .pre .2)
 
 with-second-requires-3 : tie.Need-with-second-requires-3
 with-second-requires-3 c κs =
-    let start = c .before .before .before .before .before .before .before .before .before in
+    let start = start-of-match-keys4 (c .before .before) in
     (start .pre .0, rw (c .before .enum-told4 .given .1) multiplies, start .pre .2)
 
 returns : tie.Need-returns
@@ -28,23 +74,23 @@ returns c = λ a b ia ib e l ra. rw (c .before .before .before .before .enum-tol
 
 returns-2 : tie.Need-returns-2
 returns-2 c =
-    let start = c .before .before .before .before .before .before .before .before .before .before .before .before in
+    let start = start-of-with-second (c .before .before) in
     λ a b ia ib e l ra. c .before .before .with-second .ensures a b (bitAt (start .args .used .now)) ia ib e l ra
 
 returns-3 : tie.Need-returns-3
 returns-3 c =
-    let start = c .before .before .before .before .before .before .before .before .before .before .before .before in
+    let start = start-of-with-second2 (c .before .before) in
     λ a b ia ib e l ra. c .before .before .with-second2 .ensures a b (bitAt (start .args .used .now)) ia ib e l ra
 
 returns-4 : tie.Need-returns-4
 returns-4 c =
-    let start = c .before .before .before .before .before .before .before .before .before .before .before .before in
+    let start = start-of-with-second3 (c .before .before) in
     λ a b ia ib e l ra. c .before .before .with-second3 .ensures a b (bitAt (start .args .used .now)) ia ib e l ra
 
 returns-5 : tie.Need-returns-5
 returns-5 c =
-    let after-load2 = c .before .before .before .before .before .before in
-    let start = after-load2 .before .before .before .before .before .before .before .before .before .before in
+    let after-load2 = load2-of-close-rows (c .before .before) in
+    let start = start-of-load2 after-load2 in
     let g = start .args in
     λ a b ia ib e l ra.
     let s : Cells = valued (g .links .now) (g .term .second) b in
@@ -53,8 +99,8 @@ returns-5 c =
 
 returns-6 : tie.Need-returns-6
 returns-6 c =
-    let after-load3 = c .before .before .before .before .before .before in
-    let start = after-load3 .before .before .before .before .before .before .before .before .before .before in
+    let after-load3 = load3-of-set-diagonal (c .before .before) in
+    let start = start-of-load3 after-load3 in
     let g = start .args in
     λ a b ia ib e l ra.
     let s : Cells = valued (g .links .now) (g .term .second) b in
@@ -62,9 +108,9 @@ returns-6 c =
 
 returns-7 : tie.Need-returns-7
 returns-7 c =
-    let after-close2 = c .before .before .before .before .before .before in
+    let after-close2 = close-rows2-of-set-diagonal2 (c .before .before) in
     let after-load4 = after-close2 .before .before .before .before in
-    let start = after-load4 .before .before .before .before .before .before .before .before .before .before in
+    let start = start-of-load4 after-load4 in
     let g = start .args in
     λ a b ia ib e l ra.
     let s : Cells = valued (g .links .now) (g .term .second) b in

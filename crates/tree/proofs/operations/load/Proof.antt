@@ -8,9 +8,13 @@ use Rattle.tree.proofs.OperationLaws.{both-loaded}
 use Rattle.tree.proofs.operations.load.Statement.{statement}
 use Rattle.tree.proofs.operations.load.Tie as tie
 
+-- The places that the needs come back to.
+abbrev load-tree-of-put-links : tie.After-put-links → tie.After-load-tree
+load-tree-of-put-links p = p .before .before .before .before
+
 returns : tie.Need-returns
 returns c =
-    let after-load-tree = c .before .before .before .before .before .before in
+    let after-load-tree = load-tree-of-put-links (c .before .before) in
     let g = after-load-tree .before .before .before .before .before .args in
     λ a x is e r. c .before .before .put-links .ensures (union x (sensed (g .operand .sense) a)) (after-load-tree .load-tree .ensures a x is e r)
     ∙ ap flat (both-loaded (g .links .now) (g .operand) a x)

@@ -10,6 +10,13 @@ use Rattle.tree.proofs.OperationLaws.{no-tree}
 use Rattle.tree.proofs.operations.load_tree.Statement.{statement}
 use Rattle.tree.proofs.operations.load_tree.Tie as tie
 
+-- The places that the needs come back to.
+abbrev start-of-load-arg2 : tie.After-load-arg2 → tie.Start
+start-of-load-arg2 p = let at-slice-known = p .before .before .before .before .before in at-slice-known .before .before
+
+abbrev start-of-load : tie.After-load → tie.Start
+start-of-load p = start-of-load-arg2 (p .before)
+
 returns : tie.Need-returns
 returns c =
     let g = c .before .before .before .before .args in
@@ -17,14 +24,14 @@ returns c =
 
 load-requires : tie.Need-load-requires
 load-requires c κs =
-    let start = c .before .before .before .before .before .before .before in
+    let start = start-of-load-arg2 c in
     let a = start .args in
     let p = start .pre in
-    (p .0, rw length-take (omega (arith, treeUnit-most (a .n) (p .0))), p .3)
+    (p .few, rw length-take (omega (arith, treeUnit-most (a .n) (p .few))), p .rows-long)
 
 returns-2 : tie.Need-returns-2
 returns-2 c =
-    let g = c .before .before .before .before .before .before .before .before .before .before .args in
+    let g = start-of-load (c .before .before) .args in
     let k : g .at + g .operand .size - g .at ≡ g .operand .size = omega arith in
     λ a x is e r. c .before .before .load .ensures a x is (rw k e) r
 

@@ -13,16 +13,20 @@ use Rattle.tree.proofs.OperationLaws.{told-room, tree-at, pack-room}
 use Rattle.tree.proofs.operations.operate.Statement.{statement}
 use Rattle.tree.proofs.operations.operate.Tie as tie
 
+-- The places that the needs come back to.
+abbrev start-of-outcome-rows : tie.After-outcome-rows → tie.Start
+start-of-outcome-rows p = let at-shared-slice-known = p .before .before .before .before .before in at-shared-slice-known .before .before
+
 -- there was room
 roomy : (c : tie.Then1)
-    → let start = c .before .before .before .before .before .before .before .before .before .before in
+    → let start = start-of-outcome-rows (c .before .before .before) in
     Room (start .args .n) (start .args .term) (length (start .args .work .now)) (length (start .args .used .now)) (length (start .args .rows .now))
 roomy c = told-room (c .before .before .before .outcome-rows .ensures) (c .if1 .taken)
 
 pack-requires : tie.Need-pack-requires
 pack-requires c κs =
     let after-outcome-rows = c .before .before .before .before .before in
-    let g = after-outcome-rows .before .before .before .before .before .before .before .args in
+    let g = start-of-outcome-rows after-outcome-rows .args in
     let p = roomy (c .before .before) in
     let k : length (after-outcome-rows .outcome-rows .last .1 .1 .1 .1 .1 .0) ≡ length (g .rows .now) =
     after-outcome-rows .outcome-rows .kept .1 .1 .1 .1 .1 .0 in
@@ -32,7 +36,7 @@ returns : tie.Need-returns
 returns c =
     let then1 = c .before .before .before .before .before in
     let after-outcome-rows = then1 .before .before .before in
-    let start = after-outcome-rows .before .before .before .before .before .before .before in
+    let start = start-of-outcome-rows after-outcome-rows in
     let g = start .args in
     let p = roomy then1 in
     let k = c .before .before .pack in

@@ -7,6 +7,16 @@ use Rattle.tree.proofs.CopyLaws.{false-absurd}
 use Rattle.tree.proofs.operations.room.Statement.{statement}
 use Rattle.tree.proofs.operations.room.Tie as tie
 
+-- The places that the needs come back to.
+abbrev tree-unit-of-then5 : tie.Then5 → tie.After-tree-unit
+tree-unit-of-then5 p = let at-first = p .before .before .before .before .before in at-first .before
+
+abbrev tree-unit-of-else5 : tie.Else5 → tie.After-tree-unit
+tree-unit-of-else5 p = let at-first = p .before .before .before .before .before in at-first .before
+
+abbrev start-of-else5 : tie.Else5 → tie.Start
+start-of-else5 p = let at-first = p .before .before .before .before .before in at-first .before .before .before .before .before
+
 returns : tie.Need-returns
 returns c = (λ e. false-absurd e, λ r. absurd (omega (arith, r .trees .size)))
 
@@ -23,16 +33,16 @@ returns-4 c =
 
 returns-5 : tie.Need-returns-5
 returns-5 c =
-    let u = c .before .before .before .before .before .before .tree-unit in
+    let u = tree-unit-of-then5 c .tree-unit in
     (λ e. false-absurd e, λ r. absurd (omega (arith, r .trees .second, u .ensures .0)))
 
 mul-result : tie.Need-mul-result
-mul-result c = omega (arith, c .before .before .before .before .before .before .tree-unit .ensures .2)
+mul-result c = omega (arith, tree-unit-of-else5 c .tree-unit .ensures .2)
 
 returns-6 : tie.Need-returns-6
 returns-6 c =
-    let u = c .before .before .before .before .before .before .tree-unit in
-    let a = c .before .before .before .before .before .before .before .before .before .before .args in (
+    let u = tree-unit-of-else5 c .tree-unit in
+    let a = start-of-else5 c .args in (
       λ e. record {
         trees = record {
           size = omega arith;
