@@ -6,12 +6,8 @@
 --   outcomeOf e links marks ring totals
 --                         the outcome of an edit of arrays, with what they hold then
 --   AsLong ls ms hs ts    the arrays are as long as a register's
---   Beside ms hs ts       the arrays beside the links are as long as a register's
 --   Whole c ls ms hs
 --                         the counters are in range, and the arrays as long as a register's
---   WholeSheet c ls ms ts
---                         the number of links is in range, and links, marks and totals are as long as a register's
---   Placed c ls ts at x   the number of links is in range, links and totals are as long as a register's, and at is the place of the word x among the links
 --   relinks m             the edit that puts a link in or takes it out
 --   Remarks e r m         the edit e of the record r is the change of its mark m
 --   Holding self w r      what `hold` promises
@@ -27,11 +23,6 @@
 --   Tested P ok           ok is whether P
 --   DraftSteps self e out what is promised of an entry of a draft: of a call what `Steps` says; no call is refused with 15 and changes nothing
 --   Reached self ws r     from the register self on, every word of ws was accepted, and they led to the register r
---   linkPart ws           the words where a register's links stand
---   Storable ws c ms hs ts
---                         what `put_back` needs: words enough, the counters in range, each mark one of the three, the arrays as long as a register's
---   PutBack c ms hs ts before after
---                         what `put_back` promises: the words are those of the register with the links that stand there; past them all is as it was
 --   Loads ws out    what `load` promises: the register of the words, or, if they are no register's, 16 and the register of no records
 --   Stores r before after ok
 --                   what `store` promises: the register's words in the front, or, with too few words, or counters or marks out of
@@ -47,7 +38,6 @@ use Rattle.book.specs.Basics.{pick, Rises}
 use Rattle.book.specs.Causes.{Cause, no-record, bad-label, locked-end, already, missing, withdrawn-record, unknown-kind, number, labels, maxRecords, maxLinks}
 use Rattle.book.specs.Causes.{maxHeld, not-open}
 use Rattle.book.specs.Book.{Link, Book, Call, Edit, add, remove, lock, unlock, withdraw, reinstate, fresh}
-use Rattle.links.specs.Ascending.{Seam}
 use Rattle.links.specs.Parts.{wordTotal}
 use Rattle.register.specs.Marks.{freeMark, lockMark, withdrawnMark, hasMark, Marked}
 use Rattle.register.specs.Packed.{Packed, kindUnit, takeBackKind}
@@ -57,7 +47,7 @@ use Rattle.register.specs.Calls.{answerOf, Steps}
 use Rattle.register.specs.History.{CallsMade, Entry, is-call, no-call}
 use Rattle.register.specs.Drafts.{draftCalls, draftNumbers}
 use Rattle.register.specs.Questions.{Sized}
-use Rattle.register.specs.Words.{stateWords, linksAt, marksAt, Keeps, OfWords, Foreign}
+use Rattle.register.specs.Words.{stateWords, marksAt, Keeps, OfWords, Foreign}
 use Rattle.register.specs.declared.Register.{Register}
 use Rattle.register.specs.declared.Counters.{Counters}
 use Rattle.register.specs.declared.Edited.{Edited}
@@ -84,34 +74,14 @@ registerOf c links marks ring totals =
 abbrev pub outcomeOf : Edited → (links marks ring totals : List ℕ) → Outcome
 outcomeOf e links marks ring totals = record { register = registerOf (e .counters) links marks ring totals; answer = e .answer }
 
-pub record AsLong (ls ms hs ts : List ℕ) : Type 0 where
-  pub links : length ls ≡ maxLinks
-  pub marks : length ms ≡ maxRecords
-  pub ring : length hs ≡ maxHeld
-  pub totals : length ts ≡ labels
-
-pub record Beside (ms hs ts : List ℕ) : Type 0 where
-  pub marks : length ms ≡ maxRecords
-  pub ring : length hs ≡ maxHeld
-  pub totals : length ts ≡ labels
+abbrev pub AsLong : (ls ms hs ts : List ℕ) → Type 0
+AsLong ls ms hs ts = (length ls ≡ maxLinks) × (length ms ≡ maxRecords) × (length hs ≡ maxHeld) × (length ts ≡ labels)
 
 pub record Whole (c : Counters) (ls ms hs : List ℕ) : Type 0 where
   pub ranged : Ranged (c .n) (c .count) (c .top) (c .held)
   pub links : length ls ≡ maxLinks
   pub marks : length ms ≡ maxRecords
   pub ring : length hs ≡ maxHeld
-
-pub record WholeSheet (c : Counters) (ls ms ts : List ℕ) : Type 0 where
-  pub few : c .count ≤ maxLinks
-  pub links : length ls ≡ maxLinks
-  pub marks : length ms ≡ maxRecords
-  pub totals : length ts ≡ labels
-
-pub record Placed (c : Counters) (ls ts : List ℕ) (at x : ℕ) : Type 0 where
-  pub few : c .count ≤ maxLinks
-  pub links : length ls ≡ maxLinks
-  pub totals : length ts ≡ labels
-  pub seam : Seam x ls (c .count) at
 
 unfoldable pub relinks : Linking → Edit
 relinks m =
@@ -191,19 +161,6 @@ pub data DraftSteps (self : Register) : Entry → Outcome → Type 0 where
 pub record Reached (self : Register) (ws : List ℕ) (r : Register) : Type 0 where
   pub made : CallsMade self (draftCalls ws) (replicate (length ws) 0) [] r
   pub numbers : (b : Book) → Represents self b → draftNumbers b ws ≡ replicate (length ws) 0
-
-abbrev pub linkPart : List ℕ → List ℕ
-linkPart ws = take maxLinks (drop linksAt ws)
-
-pub record Storable (ws : List ℕ) (c : Counters) (ms hs ts : List ℕ) : Type 0 where
-  pub long : stateWords ≤ length ws
-  pub ranged : Ranged (c .n) (c .count) (c .top) (c .held)
-  pub marked : Marked ms
-  pub sizes : Beside ms hs ts
-
-pub record PutBack (c : Counters) (ms hs ts before after : List ℕ) : Type 0 where
-  pub keeps : Keeps after (registerOf c (linkPart before) ms hs ts)
-  pub past : drop stateWords after ≡ drop stateWords before
 
 pub record Loads (ws : List ℕ) (out : Outcome) : Type 0 where
   pub loaded : out .answer ≡ Done → Keeps ws (out .register)

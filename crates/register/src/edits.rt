@@ -37,12 +37,11 @@ ghost use lib.Dec.{eqb};
 ghost use Rattle.book.specs.Basics.{without};
 ghost use Rattle.book.specs.Causes.{firstNumber, maxRecords, maxLinks, maxHeld, labels};
 ghost use Rattle.book.specs.Book.{Edit, add, remove, lock, unlock, withdraw, reinstate, edit, undo};
-ghost use Rattle.links.specs.Ascending.{insert, standsAt};
+ghost use Rattle.links.specs.Ascending.{insert, Seam, standsAt};
 ghost use Rattle.register.specs.Packed.{kindUnit};
 ghost use Rattle.register.specs.Calls.{callOf, Steps};
 ghost use Rattle.register.specs.declared.Answer.the-variants.{Done, Refused};
-ghost use Rattle.register.specs.Inner.{linkCauses, registerOf, outcomeOf, AsLong, Whole, WholeSheet, Placed, relinks};
-ghost use Rattle.register.specs.Inner.{Holding, Changed, TakenBack, Remarks};
+ghost use Rattle.register.specs.Inner.{linkCauses, registerOf, outcomeOf, AsLong, Whole, relinks, Holding, Changed, TakenBack, Remarks};
 
 // The first cause against the ends and the label of a link, or 0.
 fn link_cause(n: u16, marks: &[u32], from: u16, label: u8, to: u16) -> u32
@@ -110,7 +109,7 @@ fn hold(counters: Counters, ring: &mut [u32], word: u32) -> Edited
 
 // The link of a word put in at its place, and its label's total with it.
 fn put_in(counters: Counters, links: &mut [u32], totals: &mut [u32], at: usize, x: u32) -> Counters
-    requires { ⌜ Placed counters (now links) (now totals) at x × (counters .count < maxLinks) ⌝ }
+    requires { ⌜ (counters .count < maxLinks) × (length (now links) ≡ maxLinks) × (length (now totals) ≡ labels) × Seam x (now links) (counters .count) at ⌝ }
     ensures { λ r. ⌜ ((marks ring : List ℕ) → Changed (registerOf counters (now (links .entry)) marks ring (now (totals .entry)))
         (record { links = insert x (take (counters .count) (now (links .entry))); marks = marks })
         (registerOf r (now (links .exit)) marks ring (now (totals .exit)))) ⌝ }
@@ -124,7 +123,8 @@ fn put_in(counters: Counters, links: &mut [u32], totals: &mut [u32], at: usize, 
 
 // The link of a word taken out where it stands, and of its label's total.
 fn cut_out(counters: Counters, links: &mut [u32], totals: &mut [u32], at: usize, x: u32) -> Counters
-    requires { ⌜ Placed counters (now links) (now totals) at x × (standsAt (now links) (counters .count) at x ≡ true) ⌝ }
+    requires { ⌜ (counters .count ≤ maxLinks) × (length (now links) ≡ maxLinks) × (length (now totals) ≡ labels) × Seam x (now links) (counters .count) at
+        × (standsAt (now links) (counters .count) at x ≡ true) ⌝ }
     ensures { λ r. ⌜ ((marks ring : List ℕ) → Changed (registerOf counters (now (links .entry)) marks ring (now (totals .entry)))
         (record { links = without eqb x (take (counters .count) (now (links .entry))); marks = marks })
         (registerOf r (now (links .exit)) marks ring (now (totals .exit)))) ⌝ }
@@ -158,7 +158,7 @@ fn taken_back(
     kind: u32,
     x: u32,
 ) -> Counters
-    requires { ⌜ WholeSheet counters (now links) (now marks) (now totals) ⌝ }
+    requires { ⌜ (counters .count ≤ maxLinks) × (length (now links) ≡ maxLinks) × (length (now marks) ≡ maxRecords) × (length (now totals) ≡ labels) ⌝ }
     ensures { λ r. ⌜ ((ring : List ℕ) → TakenBack (registerOf counters (now (links .entry)) (now (marks .entry)) ring (now (totals .entry))) «kind» x
         (registerOf r (now (links .exit)) (now (marks .exit)) ring (now (totals .exit)))) ⌝ }
 {

@@ -21,8 +21,9 @@ ghost use Rattle.book.specs.Causes.{not-open, number};
 ghost use Rattle.register.specs.Marks.{hasMark, Marked};
 ghost use Rattle.register.specs.Calls.{callOf};
 ghost use Rattle.register.specs.Questions.{Totals};
-ghost use Rattle.register.specs.Inner.{KeepsOne, SizeIn, markIn, Shown, Tested, Formed, Beside, linkPart, registerOf, Storable, PutBack, Loads, Stores};
-ghost use Rattle.register.specs.Words.{OfWords, Keeps, Edits};
+ghost use Rattle.register.specs.Inner.{KeepsOne, SizeIn, markIn, Shown, Tested};
+ghost use Rattle.register.specs.Words.{OfWords, Edits};
+ghost use Rattle.register.specs.Inner.{Loads, Stores};
 ghost use Rattle.answers.specs.declared.Counted.the-variants.{Refused};
 
 // The places of the counters, and of the first link, the ring, the first mark and the first total; and how many words a register has.
@@ -176,49 +177,6 @@ pub fn totals_in<'a>(words: &'a [u32]) -> &'a [u32]
     part(words, TOTALS_AT, book::LABELS)
 }
 
-// ---- copied out and put back
-
-// The counters of a register's words, and its ring, marks and totals over arrays of their lengths.
-fn copy_out(words: &[u32], marks: &mut [u32], ring: &mut [u32], totals: &mut [u32]) -> Counters
-    requires { ⌜ Formed (now words) × Beside (now marks) (now ring) (now totals) ⌝ }
-    ensures { λ r. ⌜ Keeps (now (words .entry))
-        (registerOf r (linkPart (now (words .entry))) (now (marks .exit)) (now (ring .exit)) (now (totals .exit))) ⌝ }
-{
-    let counters = Counters {
-        n: words[SIZE_AT] as u16,
-        count: words[COUNT_AT] as usize,
-        top: words[TOP_AT] as usize,
-        held: words[HELD_AT] as usize,
-    };
-    copy_u32(&words[RING_AT..MARKS_AT], ring, 0);
-    copy_u32(&words[MARKS_AT..TOTALS_AT], marks, 0);
-    copy_u32(&words[TOTALS_AT..STATE_WORDS], totals, 0);
-    counters
-}
-
-// The counters, ring, marks and totals of a register put into its words, around the links that stand there.
-fn put_back<'a>(
-    words: &mut [u32],
-    counters: Counters,
-    marks: &'a [u32],
-    ring: &'a [u32],
-    totals: &'a [u32],
-)
-    requires { ⌜ Storable (now words) counters (now marks) (now ring) (now totals) ⌝ }
-    ensures { λ _. ⌜ PutBack counters (now (marks .entry)) (now (ring .entry)) (now (totals .entry)) (now (words .entry)) (now (words .exit)) ⌝ }
-{
-    let numbers: [u32; LINKS_AT] = [
-        counters.n as u32,
-        counters.count as u32,
-        counters.top as u32,
-        counters.held as u32,
-    ];
-    copy_u32(&numbers, words, SIZE_AT);
-    copy_u32(ring, words, RING_AT);
-    copy_u32(marks, words, MARKS_AT);
-    copy_u32(totals, words, TOTALS_AT);
-}
-
 // ---- edited in place
 
 // An edit or undo of the register whose words these are, by its number; 16 for words that are no register's. The links are edited where they stand, and the
@@ -229,10 +187,18 @@ pub fn edit_in(words: &mut [u32], call: Call) -> u32
     if !is_register(words) {
         return book::NOT_OPEN;
     }
-    let mut marks: [u32; book::MAX_RECORDS] = [0; book::MAX_RECORDS];
     let mut ring: [u32; book::MAX_HELD] = [0; book::MAX_HELD];
+    copy_u32(&words[RING_AT..MARKS_AT], &mut ring, 0);
+    let mut marks: [u32; book::MAX_RECORDS] = [0; book::MAX_RECORDS];
+    copy_u32(&words[MARKS_AT..TOTALS_AT], &mut marks, 0);
     let mut totals: [u32; book::LABELS] = [0; book::LABELS];
-    let counters = copy_out(words, &mut marks, &mut ring, &mut totals);
+    copy_u32(&words[TOTALS_AT..STATE_WORDS], &mut totals, 0);
+    let counters = Counters {
+        n: words[SIZE_AT] as u16,
+        count: words[COUNT_AT] as usize,
+        top: words[TOP_AT] as usize,
+        held: words[HELD_AT] as usize,
+    };
     let links = &mut words[LINKS_AT..RING_AT];
     let edited = edit(counters, links, &mut marks, &mut ring, &mut totals, call);
     let answer = edited.answer;
@@ -240,7 +206,16 @@ pub fn edit_in(words: &mut [u32], call: Call) -> u32
         Answer::Refused(number) => number,
         Answer::Done => {
             let after = edited.counters;
-            put_back(words, after, &marks, &ring, &totals);
+            let numbers: [u32; LINKS_AT] = [
+                after.n as u32,
+                after.count as u32,
+                after.top as u32,
+                after.held as u32,
+            ];
+            copy_u32(&numbers, words, SIZE_AT);
+            copy_u32(&ring, words, RING_AT);
+            copy_u32(&marks, words, MARKS_AT);
+            copy_u32(&totals, words, TOTALS_AT);
             0
         }
     }
@@ -261,19 +236,21 @@ impl Register {
         }
         let mut links: [u32; book::MAX_LINKS] = [0; book::MAX_LINKS];
         copy_u32(&words[LINKS_AT..RING_AT], &mut links, 0);
-        let mut marks: [u32; book::MAX_RECORDS] = [0; book::MAX_RECORDS];
         let mut ring: [u32; book::MAX_HELD] = [0; book::MAX_HELD];
+        copy_u32(&words[RING_AT..MARKS_AT], &mut ring, 0);
+        let mut marks: [u32; book::MAX_RECORDS] = [0; book::MAX_RECORDS];
+        copy_u32(&words[MARKS_AT..TOTALS_AT], &mut marks, 0);
         let mut totals: [u32; book::LABELS] = [0; book::LABELS];
-        let counters = copy_out(words, &mut marks, &mut ring, &mut totals);
+        copy_u32(&words[TOTALS_AT..STATE_WORDS], &mut totals, 0);
         Outcome {
             register: Register {
-                n: counters.n,
-                count: counters.count,
+                n: words[SIZE_AT] as u16,
+                count: words[COUNT_AT] as usize,
                 links,
                 marks,
                 ring,
-                top: counters.top,
-                held: counters.held,
+                top: words[TOP_AT] as usize,
+                held: words[HELD_AT] as usize,
                 totals,
             },
             answer: Answer::Done,
@@ -291,17 +268,21 @@ impl Register {
         if !ranged(self.n, self.count, self.top, self.held) {
             return false;
         }
-        if !marked(&self.marks) {
+        let marks = self.marks;
+        if !marked(&marks) {
             return false;
         }
+        let numbers: [u32; LINKS_AT] = [
+            self.n as u32,
+            self.count as u32,
+            self.top as u32,
+            self.held as u32,
+        ];
+        copy_u32(&numbers, words, SIZE_AT);
         copy_u32(&self.links, words, LINKS_AT);
-        let counters = Counters {
-            n: self.n,
-            count: self.count,
-            top: self.top,
-            held: self.held,
-        };
-        put_back(words, counters, &self.marks, &self.ring, &self.totals);
+        copy_u32(&self.ring, words, RING_AT);
+        copy_u32(&marks, words, MARKS_AT);
+        copy_u32(&self.totals, words, TOTALS_AT);
         true
     }
 }

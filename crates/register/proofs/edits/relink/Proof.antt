@@ -140,7 +140,10 @@ cut-out-requires c κs =
     let after-stands = c .before .before .before .before in
     let start = after-stands .before .before .before .before .before .before .before .before .before .before .before in
     let p = start .pre in (
-      record { few = p .0 .ranged .count; links = p .0 .links; totals = p .1; seam = after-stands .before .before .lower-bound .ensures },
+      p .0 .ranged .count,
+      p .0 .links,
+      p .1,
+      after-stands .before .before .lower-bound .ensures,
       sym (after-stands .stands .ensures) ∙ not-false _ (c .before .before .if5 .left),
     )
 

@@ -26,8 +26,8 @@ returns c =
     let ls = s .links .now in
     let seam = after-lower-bound .lower-bound in
     let st = c .before .stands in
-    let few : n ≤ length ls = omega (arith, start .pre .few, start .pre .links) in
-    λ ring. back-marks (s .counters) ls (s .marks .now) ring (s .totals .now) (s .marks .now) (s .kind) (s .x) (start .pre .few)
+    let few : n ≤ length ls = omega (arith, start .pre .0, start .pre .1) in
+    λ ring. back-marks (s .counters) ls (s .marks .now) ring (s .totals .now) (s .marks .now) (s .kind) (s .x) (start .pre .0)
     (rw (after-match .match .keys1) refl)
     (rw (after-match .match .keys1) (λ r. ap (λ (m : List ℕ). record { links = m; marks = s .marks .now })
     (sym (without-absent eqb-test (s .x) (take n ls) (sym (seam-has (s .x) ls n (seam .result) few r (seam .ensures))
@@ -36,7 +36,10 @@ returns c =
 cut-out-requires : tie.Need-cut-out-requires
 cut-out-requires c κs =
     let p = c .before .before .before .before .before .before .before .before .before .before .before .pre in (
-      record { few = p .few; links = p .links; totals = p .totals; seam = c .before .before .before .before .before .lower-bound .ensures },
+      p .0,
+      p .1,
+      p .3,
+      c .before .before .before .before .before .lower-bound .ensures,
       sym (c .before .before .before .stands .ensures) ∙ not-false _ (c .before .before .if1 .left),
     )
 
@@ -48,9 +51,9 @@ returns-2 c =
     let s = start .args in
     let n = s .counters .count in
     let ls = s .links .now in
-    let h : length (take n ls) ≡ n = length-take-le n ls (omega (arith, start .pre .few, start .pre .links)) in
+    let h : length (take n ls) ≡ n = length-take-le n ls (omega (arith, start .pre .0, start .pre .1)) in
     λ ring. record {
-      kept = record { n = refl; ring = refl; top = refl; held = refl; count = start .pre .few };
+      kept = record { n = refl; ring = refl; top = refl; held = refl; count = start .pre .0 };
       marks = rw (c .before .match .keys2) refl;
       sheet = rw (c .before .match .keys2) (λ _ f. absurd (omega (arith, length-insert (s .x) (take n ls), h, f, c .if2 .taken)));
       counted = λ _ t. t;
@@ -106,7 +109,7 @@ returns-9 c =
     let s = start .args in
     let m = c .match .rest in
     λ ring. let same = sym (back-rest (s .kind) (s .x) _ (m .0 .0 .0 .0 .0 .1) (m .0 .0 .0 .0 .1) (m .0 .0 .0 .1) (m .0 .0 .1) (m .0 .1) (m .1)) in
-    back-marks (s .counters) (s .links .now) (s .marks .now) ring (s .totals .now) (s .marks .now) (s .kind) (s .x) (start .pre .few)
+    back-marks (s .counters) (s .links .now) (s .marks .now) ring (s .totals .now) (s .marks .now) (s .kind) (s .x) (start .pre .0)
     (ap (λ (p : Packed). p .marks) same) (λ _. same)
 
 pub taken-back-spec : {M : Type 1} → statement M

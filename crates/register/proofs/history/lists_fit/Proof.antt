@@ -20,10 +20,6 @@ Inv-loop words length left₀ i₀ left i = (i ≤ size words) × (left + 1024 *
 abbrev μ-loop : tie.MeasureT-loop
 μ-loop words length left₀ i₀ left i = size words - i
 
--- The places that the needs come back to.
-abbrev start-of-list-words : tie.After-list-words Inv-loop μ-loop → tie.Start Inv-loop μ-loop
-start-of-list-words p = p .before .before .before .before .before
-
 loop-holds : tie.Need-loop-holds Inv-loop μ-loop
 unfolding callsOf tally
 loop-holds c = (omega arith, omega arith)
@@ -41,7 +37,7 @@ returns c =
 loop-again : tie.Need-loop-again Inv-loop μ-loop
 loop-again c =
     let l = c .before .before .before .before .loop in
-    let ws = start-of-list-words (c .before) .args .words .now in
+    let ws = c .before .before .before .before .before .before .args .words .now in
     let h : l .i < size ws = c .before .before .before .loop-test .taken in
     (omega arith, omega (arith, l .inv .1, c .before .list-words .ensures, closings-turn ws (l .i) h, c .if1 .left))
 

@@ -7,10 +7,6 @@ use borrow.Author.Needs.{needs}
 use Rattle.register.proofs.words.is_register.Statement.{statement}
 use Rattle.register.proofs.words.is_register.Tie as tie
 
--- The places that the needs come back to.
-abbrev else1-of-ranged : tie.After-ranged → tie.Else1
-else1-of-ranged p = let at-else2 = p .before .before .before .before .before in at-else2 .before .before
-
 returns : tie.Need-returns
 returns c = tested-not (λ k. omega (arith, keeps-formed _ k .long, c .if1 .taken))
 
@@ -32,7 +28,7 @@ returns-3 c = tested-not (λ k. c .before .ranged .ensures .none (not-true _ (c 
 returns-4 : tie.Need-returns-4
 returns-4 c =
     let after-ranged = c .before .before .before in
-    let else1 = else1-of-ranged after-ranged in
+    let else1 = after-ranged .before .before .before .before .before .before .before in
     let ws = else1 .before .before .args .words .now in
     formed-by ws (c .marked .result) (else1 .if1 .left) (after-ranged .ranged .ensures .sure (not-false _ (c .before .before .if3 .left))) (c .marked .ensures)
 
