@@ -150,6 +150,7 @@ touched_end r (j ∷ l) t = go (eqb j.from r) refl (eqb j.to r) refl t (touched_
 
 pub end_touched : (r : ℕ) {k : Link} (l : List Link) → In k l → (k.from ≡ r) ⊎ (k.to ≡ r) → touched r l ≡ true
 unfolding touched
+end_touched r {k = k} [] x'' e = elim x'' [ ]
 end_touched r {k} (j ∷ l) here (inl e) = rw (eq-eqb k.from r e)
 end_touched r {k} (j ∷ l) here (inr e) = rw (eq-eqb k.to r e, or-true (eqb k.from r))
 end_touched r {k} (j ∷ l) (there h) e = rw (end_touched r l h e) (or-true (eqb j.from r || eqb j.to r))

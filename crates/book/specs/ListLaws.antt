@@ -67,6 +67,7 @@ module _ {A B : Type 0} (f : A → B) where
 
 -- ---- ascending lists
 pub rises_least : {m w : ℕ} {l : List ℕ} → Rises m l → In w l → m ≤ w
+rises_least {w = w} (ended {m = m}) x4 = elim x4 [ ]
 rises_least (rises h r) here = h
 rises_least (rises h r) (there i) = omega (arith, rises_least r i)
 

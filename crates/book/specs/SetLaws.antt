@@ -74,6 +74,7 @@ module _ {A : Type 0} {same : A → A → Bool} (T : EqualityTest same) where
 
   pub in_has : (x : A) (l : List A) → In x l → has same x l ≡ true
   unfolding has
+  in_has x [] x'' = elim x'' [ ]
   in_has x (y ∷ ys) here = rw (T.reflexive x)
   in_has x (y ∷ ys) (there h) = rw (in_has x ys h) (or-true (same y x))
 
