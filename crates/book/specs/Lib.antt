@@ -13,3 +13,4 @@ pub mod GivenLaws
 pub mod BookCases
 pub mod Orders
 pub mod OrderLaws
+pub mod SameOrderLaws

@@ -10,7 +10,8 @@ use Rattle.book.specs.Causes.{labels, max_links}
 use Rattle.book.specs.Book.{Link, Sheet, Book, Edit, Call, edit, present, total, total_number, answer, next, fresh, after}
 use Rattle.book.specs.ListLaws.{rises_same}
 use Rattle.book.specs.Orders.{Single, link_in, Alike}
-use Rattle.book.specs.OrderLaws.{exchange_free, exchange_same}
+use Rattle.book.specs.OrderLaws.{exchange_free}
+use Rattle.book.specs.SameOrderLaws.{exchange_same}
 use Rattle.answers.specs.Answers.{counted, answered}
 use Rattle.paths.specs.Verdicts.{verdict}
 use Rattle.paths.specs.Chains.{Graph, asked, chain}
