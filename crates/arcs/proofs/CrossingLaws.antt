@@ -16,7 +16,7 @@ use Prim.Native.Nat.{ℕ, zero, suc, ◌+◌, ◌*◌, ◌/◌, ◌%◌, ◌<◌
 use native.Mathlib.Omega.{arith}
 use lib.ListN.{length, get_or, set}
 use lib.Seq.{get_or-set_same, get_or-set_other}
-use Rattle.automaton.specs.LevelLaws.{Which, less, same, more, which}
+use Rattle.automaton.proofs.LevelLaws.{Which, less, same, more, which}
 use Rattle.arcs.specs.Arcs.{arc_of, crossing_at, Crossings, NoUse, PutIf}
 use Rattle.arcs.specs.ArcLaws.{says_forward, says_against}
 

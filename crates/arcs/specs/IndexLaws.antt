@@ -6,7 +6,7 @@
 -- Assumes nothing.
 use Rattle.std.specs.Prelude.{◌≡◌, ◌⊎◌, List, ℕ, ◌-◌, ◌≤◌, ◌<◌}
 use Rattle.std.proofs.Common.{sym, ◌∙◌, inl, inr, arith}
-use Rattle.automaton.specs.LevelLaws.{Which, less, same, more, which}
+use Rattle.automaton.proofs.LevelLaws.{Which, less, same, more, which}
 use Rattle.arcs.specs.Index.{first_arc, next_arc, Cursor, Indexed}
 
 module _ {key : ℕ → ℕ} {k : ℕ} {ix : List ℕ} (I : Indexed key k ix) {r : ℕ} where

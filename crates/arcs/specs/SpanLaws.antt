@@ -10,10 +10,10 @@ use Rattle.std.proofs.Math.Path.{sym}
 use Rattle.std.proofs.Common.{ap, ◌∙◌, arith, eq-eqb, ne_eqb}
 use Rattle.std.proofs.Math.ListN.{length}
 use Rattle.book.specs.Book.{Link, Book, present, is_withdrawn}
-use Rattle.book.specs.ListLaws.{in_at, at_in}
+use Rattle.book.proofs.ListLaws.{in_at, at_in}
 use Rattle.paths.specs.Chains.{asked}
-use Rattle.paths.specs.ChainLaws.{Inside}
-use Rattle.paths.specs.PairLaws.{in_use, fit_inside}
+use Rattle.paths.specs.Inside.{Inside}
+use Rattle.paths.proofs.PairLaws.{in_use, fit_inside}
 use Rattle.register.specs.declared.Register.{Register}
 use Rattle.links.specs.Links.{link_word}
 use Rattle.links.specs.Parts.{link_of}

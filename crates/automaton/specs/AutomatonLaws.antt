@@ -6,10 +6,10 @@ use Rattle.std.proofs.Common.{inl, inr, arith}
 use Rattle.paths.specs.Expressions.{Letter, Expr}
 use Rattle.paths.specs.Words.{Words}
 use Rattle.automaton.specs.Automata.{On, is, Fragment, started, automaton, Run, ends, goes}
-use Rattle.automaton.specs.SetLaws.{on_max, on_left, on_right, on_both, on_min, on_is, is_on}
+use Rattle.automaton.proofs.SetLaws.{on_max, on_left, on_right, on_both, on_min, on_is, is_on}
 use Rattle.automaton.specs.Traces.{Trace, at, on, Reads, nothing, along, Within}
-use Rattle.automaton.specs.TraceLaws.{within}
-use Rattle.automaton.specs.ReadLaws.{reads_words, words_reads}
+use Rattle.automaton.proofs.TraceLaws.{within}
+use Rattle.automaton.proofs.ReadLaws.{reads_words, words_reads}
 
 -- past the start the sets are those of the positions
 past : (q a b : ℕ) → 0 < q → On (max a (min (is 0 q) b)) → On a

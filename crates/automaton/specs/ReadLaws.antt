@@ -21,11 +21,11 @@ use Rattle.paths.specs.Expressions.{Letter, Symbol, stands_for, Expr, symbol, gr
 use Rattle.paths.specs.Expressions.{letters}
 use Rattle.paths.specs.Words.{backwards, Words, itself, inside, reversed as word-reversed, left, right, joined, once, again, star_none, star_some}
 use Rattle.paths.specs.Words.{optional_none, optional_once}
-use Rattle.paths.specs.ChainLaws.{backwards_backwards}
+use Rattle.paths.proofs.ChainLaws.{backwards_backwards}
 use Rattle.automaton.specs.Automata.{On, is, Fragment, single, reversed, repeated, optional, either, followed, fragment}
-use Rattle.automaton.specs.SetLaws.{on_max, on_left, on_right, on_both, on_min, is_on, on_bit, bit_on}
+use Rattle.automaton.proofs.SetLaws.{on_max, on_left, on_right, on_both, on_min, is_on, on_bit, bit_on}
 use Rattle.automaton.specs.Traces.{Trace, at, on, Reads, nothing, along, Between, Within}
-use Rattle.automaton.specs.TraceLaws.{trace_map, trace_join, trace_reversed, trace_forth, within}
+use Rattle.automaton.proofs.TraceLaws.{trace_map, trace_join, trace_reversed, trace_forth, within}
 
 -- ---- from a larger automaton's words to those of its parts
 ends : {A : Fragment} {lo hi q r : ℕ} {w : List Letter} → Within lo hi A → Trace A q w r → Between lo hi r

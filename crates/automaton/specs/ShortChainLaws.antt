@@ -19,17 +19,18 @@ use Rattle.std.proofs.Math.Dec.{eqb}
 use borrow.Author.Tests.{eq-eqb, eqb-true}
 use Rattle.book.specs.Basics.{has, without}
 use Rattle.book.specs.Sheets.{Distinct}
-use Rattle.book.specs.SetLaws.{and_both, eqb_test, has_without, without_absent, distinct_without, length_without}
+use Rattle.book.proofs.SetLaws.{and_both, eqb_test, has_without, without_absent, distinct_without, length_without}
 use Rattle.paths.specs.Expressions.{Expr, letters}
 use Rattle.paths.specs.Chains.{Graph, Step, spell, Answers, NotAfter, shorter, as_long, First}
-use Rattle.paths.specs.ChainLaws.{Inside, crossing_in}
-use Rattle.paths.specs.FirstChainLaws.{length_step_words}
+use Rattle.paths.specs.Inside.{Inside}
+use Rattle.paths.proofs.ChainLaws.{crossing_in}
+use Rattle.paths.proofs.FirstChainLaws.{length_step_words}
 use Rattle.automaton.specs.Automata.{Automaton, automaton, started}
-use Rattle.automaton.specs.AutomatonLaws.{words_run}
-use Rattle.automaton.specs.TraceLaws.{within}
+use Rattle.automaton.proofs.AutomatonLaws.{words_run}
+use Rattle.automaton.proofs.TraceLaws.{within}
 use Rattle.automaton.specs.Searches.{Walk, Moves}
-use Rattle.automaton.specs.LevelLaws.{walk_more, walk_less}
-use Rattle.automaton.specs.WalkLaws.{answers_walk}
+use Rattle.automaton.proofs.LevelLaws.{walk_more, walk_less}
+use Rattle.automaton.proofs.WalkLaws.{answers_walk}
 
 pub distinct_few : (k : ℕ) (l : List ℕ) → Distinct eqb l → ((v : ℕ) → has eqb v l ≡ true → v < k) → length l ≤ k
 distinct_few zero l d b = go l b

@@ -13,9 +13,9 @@ use native.Mathlib.Omega.{arith}
 use Rattle.book.specs.Basics.{bit}
 use Rattle.paths.specs.Expressions.{Letter, stands_for, Expr, symbol, group, inverse, star, plus, optional as optional-part, alternative, sequence, letters}
 use Rattle.paths.specs.Words.{inverse_letter, backwards}
-use Rattle.paths.specs.ChainLaws.{inverse_inverse}
+use Rattle.paths.proofs.ChainLaws.{inverse_inverse}
 use Rattle.automaton.specs.Automata.{On, is, Fragment, single, reversed, repeated, optional, either, followed, fragment}
-use Rattle.automaton.specs.SetLaws.{on_max, on_min, on_is}
+use Rattle.automaton.proofs.SetLaws.{on_max, on_min, on_is}
 use Rattle.automaton.specs.Traces.{Trace, at, on, Between, Within}
 
 -- ---- traces

@@ -14,12 +14,12 @@ use Rattle.std.proofs.Math.ListN.{length}
 use Rattle.paths.specs.Expressions.{Expr}
 use Rattle.paths.specs.Chains.{Graph, Step, step_word, spell, step_words, Answers, Before, same as same-words, smaller, alike, NotAfter, shorter, as_long, First}
 use Rattle.paths.specs.Words.{Words}
-use Rattle.paths.specs.FirstChainLaws.{length_step_words}
+use Rattle.paths.proofs.FirstChainLaws.{length_step_words}
 use Rattle.automaton.specs.Automata.{On, is, Automaton, automaton, Run}
-use Rattle.automaton.specs.SetLaws.{on_is, is_on}
-use Rattle.automaton.specs.AutomatonLaws.{words_run}
+use Rattle.automaton.proofs.SetLaws.{on_is, is_on}
+use Rattle.automaton.proofs.AutomatonLaws.{words_run}
 use Rattle.automaton.specs.Searches.{Walk, Reach, Known, Best, Picks}
-use Rattle.automaton.specs.LevelLaws.{walk_more, walk_less, Which, less, same, more, which}
+use Rattle.automaton.proofs.LevelLaws.{walk_more, walk_less, Which, less, same, more, which}
 
 module _ {g : Graph} {M : Automaton} {y : ℕ} where
   pub best_more : {G K : ℕ → ℕ} {r m : ℕ} {s : Step} {ss : List Step} → Picks g M y G r m s K → Best g M y K s.reached m ss → Best g M y G r (suc m) (s ∷ ss)

@@ -20,16 +20,17 @@ use Rattle.paths.specs.Words.{backwards}
 use Rattle.paths.specs.Chains.{Graph, asked, spell, step_words, no_chain}
 use Rattle.paths.specs.Relations.{crossed_by, zero_steps, cells, PairsAre, pairs}
 use Rattle.paths.specs.Descent.{members_in, alternatives_in, read_alternatives}
-use Rattle.paths.specs.Verdicts.{verdict, verdict_right}
-use Rattle.paths.specs.ChainLaws.{Inside}
-use Rattle.paths.specs.RelationLaws.{cells_set, cells_has, cells_is}
-use Rattle.paths.specs.PairLaws.{pairs_are, history_inside, history_small}
-use Rattle.paths.specs.ChainOrderLaws.{before}
-use Rattle.paths.specs.AcceptanceLaws.{parted, many, accepts}
-use Rattle.paths.specs.FirstChainLaws.{reach, steps_below, before_each, after_each, walks, walks_to, end, best, just, first_to, chain_to, chain_first}
+use Rattle.paths.specs.Verdicts.{verdict}
+use Rattle.paths.proofs.VerdictLaws.{verdict_right}
+use Rattle.paths.specs.Inside.{Inside}
+use Rattle.paths.proofs.RelationLaws.{cells_set, cells_has, cells_is}
+use Rattle.paths.proofs.PairLaws.{pairs_are, history_inside, history_small}
+use Rattle.paths.proofs.ChainOrderLaws.{before}
+use Rattle.paths.proofs.AcceptanceLaws.{parted, many, accepts}
+use Rattle.paths.proofs.FirstChainLaws.{reach, steps_below, before_each, after_each, walks, walks_to, end, best, just, first_to, chain_to, chain_first}
 use Rattle.cases.specs.Tables.{bytes, Case, pairs_of, chain_of, none_of, tree_of, word_of, Met, made, links, table}
-use Rattle.cases.specs.RequestTables.{struck, struck_table, returned}
-use Rattle.cases.specs.RequestTables.{returned_table, ring, ring_table, swapped_table, ties, ties_table, sets_table, set_ties_table}
+use Rattle.cases.proofs.RequestTables.{struck, struck_table, returned}
+use Rattle.cases.proofs.RequestTables.{returned_table, ring, ring_table, swapped_table, ties, ties_table, sets_table, set_ties_table}
 
 -- ---- a case from what is computed
 read : (t : String) (e : Expr) → verdict (bytes t) ≡ accepted e → Judged (bytes t) (accepted e)

@@ -19,15 +19,15 @@ use lib.Seq.{length-take-le}
 use borrow.Author.Tests.{le-leb, lt-leb, le-ltb, lt-ltb}
 use Rattle.book.specs.Causes.{no_record, short_work, short_list, number, Caused, first_number}
 use Rattle.book.specs.Book.{Book, is_withdrawn}
-use Rattle.book.specs.SetLaws.{or-true}
+use Rattle.book.proofs.SetLaws.{or-true}
 use Rattle.answers.specs.Answers.{counted}
 use Rattle.answers.specs.AnswerLaws.{contained_refused, contained_count}
 use Rattle.paths.specs.Expressions.{Expr}
 use Rattle.paths.specs.Grammar.{Verdict, accepted, long, outside, large, verdict_cause}
 use Rattle.paths.specs.Verdicts.{verdict}
 use Rattle.paths.specs.Chains.{Graph, asked, Step, Answers, Reply, none as no-reply, chain as chain-reply, ChainIs, no_chain, first_chain}
-use Rattle.paths.specs.PairLaws.{withdrawn_none, none_withdrawn, verdict_caused}
-use Rattle.paths.specs.FirstChainLaws.{reply_only, length_step_words}
+use Rattle.paths.proofs.PairLaws.{withdrawn_none, none_withdrawn, verdict_caused}
+use Rattle.paths.proofs.FirstChainLaws.{reply_only, length_step_words}
 use Rattle.paths.specs.Questions.{refused, replied, ReplyTo, chain_work, steps, chain_causes, chain_answer, list_after}
 use Rattle.register.specs.declared.Register.{Register}
 use Rattle.register.specs.Representation.{Represents}

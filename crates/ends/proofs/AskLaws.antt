@@ -17,15 +17,15 @@ use borrow.Author.Tests.{le-leb, lt-leb}
 use Rattle.book.specs.Basics.{ended}
 use Rattle.book.specs.Causes.{no_record, number, Caused, first_number, max_records}
 use Rattle.book.specs.Book.{Book, is_withdrawn}
-use Rattle.book.specs.ListLaws.{in_none}
+use Rattle.book.proofs.ListLaws.{in_none}
 use Rattle.paths.specs.Expressions.{Expr}
 use Rattle.paths.specs.Grammar.{Verdict, accepted, long, outside, large, verdict_cause}
 use Rattle.paths.specs.Verdicts.{verdict}
 use Rattle.paths.specs.Chains.{Graph, asked}
-use Rattle.paths.specs.ChainLaws.{Inside}
+use Rattle.paths.specs.Inside.{Inside}
 use Rattle.paths.specs.Relations.{cells}
-use Rattle.paths.specs.RelationLaws.{cells_has}
-use Rattle.paths.specs.PairLaws.{withdrawn_out, verdict_caused}
+use Rattle.paths.proofs.RelationLaws.{cells_has}
+use Rattle.paths.proofs.PairLaws.{withdrawn_out, verdict_caused}
 use Rattle.answers.specs.Answers.{counted}
 use Rattle.answers.specs.AnswerLaws.{contained_refused, contained_count}
 use Rattle.answers.specs.Listing.{Shown}
@@ -39,8 +39,8 @@ use Rattle.arcs.specs.SpanLaws.{inside}
 use Rattle.search.specs.Reaching.{Ended}
 use Rattle.rows.specs.Rows.{places}
 use Rattle.ends.specs.Ends.{ends, joined_by, ends_causes, ends_answer}
-use Rattle.ends.specs.EndsLaws.{places_same, ends_only, joined_as}
-use Rattle.ends.specs.MadeLaws.{answer_ends}
+use Rattle.ends.proofs.EndsLaws.{places_same, ends_only, joined_as}
+use Rattle.ends.proofs.MadeLaws.{answer_ends}
 use Rattle.ends.specs.Asking.{AsksJoined}
 use Rattle.ends.specs.Listing.{meets}
 

@@ -22,15 +22,15 @@ use Rattle.std.proofs.Math.Decide.{dec_lt}
 use Rattle.book.specs.Basics.{In, here, there, Rises, ended, rises}
 use Rattle.book.specs.CauseOrders.{question_order, InOrder, same_cause, passed_over, none_left}
 use Rattle.book.specs.Book.{Book}
-use Rattle.book.specs.ListLaws.{in_left, in_right, in_either, in_none, in_one, rises_same}
+use Rattle.book.proofs.ListLaws.{in_left, in_right, in_either, in_none, in_one, rises_same}
 use Rattle.k2.specs.PairSets.{if_set, transpose, pair_word}
 use Rattle.paths.specs.Expressions.{Expr, group, inverse}
 use Rattle.paths.specs.Grammar.{Verdict, accepted, long, outside, large, verdict_cause}
 use Rattle.paths.specs.Chains.{Graph, Has, Reply, chain, ChainIs, no_chain, first_chain, step_words}
-use Rattle.paths.specs.ChainLaws.{Inside}
+use Rattle.paths.specs.Inside.{Inside}
 use Rattle.paths.specs.Relations.{cells, pairs}
-use Rattle.paths.specs.RelationLaws.{cells_has}
-use Rattle.paths.specs.PairLaws.{pairs_are}
+use Rattle.paths.proofs.RelationLaws.{cells_has}
+use Rattle.paths.proofs.PairLaws.{pairs_are}
 use Rattle.tables.specs.Builds.{in_sense}
 use Rattle.rows.specs.Rows.{places}
 use Rattle.ends.specs.Ends.{Exactly, EndsAre, StartsAre, ends, starts, joined_by, ends_causes}

@@ -17,8 +17,8 @@ use Rattle.paths.specs.Expressions.{Expr}
 use Rattle.paths.specs.Grammar.{Verdict, accepted, verdict_cause}
 use Rattle.paths.specs.Verdicts.{verdict}
 use Rattle.paths.specs.Chains.{asked}
-use Rattle.paths.specs.ChainLaws.{Inside}
-use Rattle.paths.specs.PairLaws.{history_inside}
+use Rattle.paths.specs.Inside.{Inside}
+use Rattle.paths.proofs.PairLaws.{history_inside}
 use Rattle.answers.specs.declared.Counted.{Counted}
 use Rattle.answers.specs.declared.Counted.TheVariants.{Count}
 use Rattle.paths.specs.Questions.{Outcome as Question-as-Outcome, paired, over, list_after, count_of, Tells}
@@ -30,7 +30,7 @@ use Rattle.register.specs.declared.Register.{Register}
 use Rattle.register.specs.declared.Outcome.{Outcome}
 use Rattle.ends.specs.Ends.{EndsAre, StartsAre, ends, starts, joined_by, ends_of, ends_causes, ends_answer}
 use Rattle.ends.specs.Asking.{AsksEnds, AsksStarts}
-use Rattle.ends.specs.EndsLaws.{ends_are, starts_are}
+use Rattle.ends.proofs.EndsLaws.{ends_are, starts_are}
 
 pub answer_ends : (against : Bool) (b : Book) (x room : ℕ) → x < b.n → (v : Verdict) (e : Expr) → v ≡ accepted e
     → ends_answer against b x v room ≡ paired (length (joined_by against (asked b) e x)) (take room (joined_by against (asked b) e x))

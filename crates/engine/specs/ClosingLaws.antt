@@ -12,10 +12,10 @@ use Rattle.book.specs.Book.{Book, Call, close, answer, next, fresh, after}
 use Rattle.paths.specs.Verdicts.{verdict}
 use Rattle.paths.specs.Chains.{asked, Reply}
 use Rattle.paths.specs.Questions.{Outcome as Question-as-Outcome, refused, paired, replied, unless, pairs_of, pairs_causes, pairs_answer, list_after, count_of}
-use Rattle.paths.specs.PairLaws.{fit_inside}
-use Rattle.paths.specs.GraphLaws.{some_reply}
+use Rattle.paths.proofs.PairLaws.{fit_inside}
+use Rattle.paths.proofs.GraphLaws.{some_reply}
 use Rattle.paths.specs.Renaming.{renamed_reply, renamed_outcome, new_number}
-use Rattle.paths.specs.ClosingLaws.{closing_pairs, closing_chain}
+use Rattle.paths.proofs.ClosingLaws.{closing_pairs, closing_chain}
 use Rattle.register.specs.Representation.{Represents}
 use Rattle.register.specs.Calls.{answer_number, Closes}
 use Rattle.register.specs.HistoryLaws.{represents_sound, number_answer}

@@ -23,10 +23,11 @@ use Rattle.paths.specs.Expressions.{Expr}
 use Rattle.paths.specs.Grammar.{Verdict, accepted, long, outside, large, Judged, verdict_cause}
 use Rattle.paths.specs.Chains.{asked, Step, step_words, Answers, First, Reply, none, chain, ChainIs, no_chain, first_chain}
 use Rattle.paths.specs.Relations.{pairs}
-use Rattle.paths.specs.PairLaws.{fit_inside, pairs_are, first_part}
-use Rattle.paths.specs.FirstChainLaws.{has_first, length_step_words}
-use Rattle.paths.specs.GraphLaws.{some_reply}
-use Rattle.paths.specs.Verdicts.{verdict, verdict_right, verdict_only, accepted_same}
+use Rattle.paths.proofs.PairLaws.{fit_inside, pairs_are, first_part}
+use Rattle.paths.proofs.FirstChainLaws.{has_first, length_step_words}
+use Rattle.paths.proofs.GraphLaws.{some_reply}
+use Rattle.paths.specs.Verdicts.{verdict}
+use Rattle.paths.proofs.VerdictLaws.{verdict_right, verdict_only, accepted_same}
 use Rattle.paths.specs.Questions.{Outcome, Engine, refused, replied, unless, work_for, chain_work, ReplyTo, steps, chain_causes, chain_answer}
 use Rattle.paths.specs.Questions.{pairs_causes, pairs_answer, over, list_after, count_of, Tells}
 use Rattle.links.specs.Links.{Linked}
@@ -37,7 +38,7 @@ use Rattle.register.specs.HistoryLaws.{history, word_answers_length, told-calls}
 use Rattle.register.specs.declared.Register.{Register}
 use Rattle.register.specs.declared.Outcome.{Outcome as Told}
 use Rattle.query.specs.Asking.{AsksFor}
-use Rattle.query.specs.AskingLaws.{outcome_short, outcome_paired}
+use Rattle.query.proofs.AskingLaws.{outcome_short, outcome_paired}
 use Rattle.chains.specs.Replies.{outcome_of, chain_counted, Replies}
 use Rattle.chains.specs.declared.ChainAnswer.{ChainAnswer}
 use Rattle.chains.specs.declared.ChainAnswer.TheVariants.{Chain, NoChain, Refused as NotAnswered}

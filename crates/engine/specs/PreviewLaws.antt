@@ -12,7 +12,7 @@ use Rattle.std.proofs.Common.{sym, ◌∙◌, arith}
 use Rattle.std.proofs.Math.Path.{ap}
 use Rattle.book.specs.Causes.{Caused}
 use Rattle.book.specs.Book.{Book, Call, answer, next, fresh, after}
-use Rattle.book.specs.BookLaws.{caused_positive}
+use Rattle.book.proofs.BookLaws.{caused_positive}
 use Rattle.answers.specs.declared.Counted.{Counted}
 use Rattle.answers.specs.declared.Counted.TheVariants.{Refused}
 use Rattle.paths.specs.Verdicts.{verdict}
@@ -26,7 +26,7 @@ use Rattle.register.specs.declared.Outcome.{Outcome}
 use Rattle.register.specs.declared.Answer.{Answer}
 use Rattle.register.specs.declared.Answer.TheVariants.{Done, Refused as Turned-down}
 use Rattle.query.specs.Asking.{max_pairs, AsksPairs, AsksRows}
-use Rattle.query.specs.AskingLaws.{asks_refused, engines_outcome, tells_same}
+use Rattle.query.proofs.AskingLaws.{asks_refused, engines_outcome, tells_same}
 use Rattle.engine.specs.BookLaws.{made_book}
 use Rattle.engine.specs.Previews.{preview_answer, Previews}
 

@@ -8,16 +8,16 @@ use Rattle.std.proofs.Common.{sym, ap, ◌∙◌, subst, arith, length-append, l
 use Rattle.book.specs.Basics.{In}
 use Rattle.book.specs.Causes.{labels, max_links}
 use Rattle.book.specs.Book.{Link, Sheet, Book, Edit, Call, edit, present, total, total_number, answer, next, fresh, after}
-use Rattle.book.specs.ListLaws.{rises_same}
+use Rattle.book.proofs.ListLaws.{rises_same}
 use Rattle.book.specs.Orders.{Single, link_in, Alike}
-use Rattle.book.specs.OrderLaws.{exchange_free}
-use Rattle.book.specs.SameOrderLaws.{exchange_same}
+use Rattle.book.proofs.OrderLaws.{exchange_free}
+use Rattle.book.proofs.SameOrderLaws.{exchange_same}
 use Rattle.answers.specs.Answers.{counted, answered}
 use Rattle.paths.specs.Verdicts.{verdict}
 use Rattle.paths.specs.Chains.{Graph, asked, chain}
 use Rattle.paths.specs.Questions.{Outcome as Question-as-Outcome, refused, paired, replied, steps, ReplyTo, chain_answer, over, list_after}
-use Rattle.paths.specs.PairLaws.{fit_inside}
-use Rattle.paths.specs.GraphLaws.{same_graph, same_pairs, same_chain, some_reply}
+use Rattle.paths.proofs.PairLaws.{fit_inside}
+use Rattle.paths.proofs.GraphLaws.{same_graph, same_pairs, same_chain, some_reply}
 use Rattle.links.specs.Links.{Linked}
 use Rattle.register.specs.Marks.{free_mark, mark_of}
 use Rattle.register.specs.Representation.{Represents}
@@ -26,7 +26,7 @@ use Rattle.register.specs.Made.{MadeBy}
 use Rattle.register.specs.declared.Register.{Register}
 use Rattle.register.specs.declared.Outcome.{Outcome}
 use Rattle.register.specs.declared.Answer.TheVariants.{Done}
-use Rattle.query.specs.AskingLaws.{tells_same}
+use Rattle.query.proofs.AskingLaws.{tells_same}
 use Rattle.chains.specs.Replies.{outcome_of, chain_counted, Replies}
 use Rattle.chains.specs.declared.ChainAnswer.{ChainAnswer}
 use Rattle.chains.specs.declared.ChainAnswer.TheVariants.{Chain, NoChain, Refused}

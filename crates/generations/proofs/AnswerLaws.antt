@@ -28,9 +28,9 @@ use Rattle.paths.specs.Expressions.{Expr}
 use Rattle.paths.specs.Grammar.{Verdict, accepted, verdict_cause}
 use Rattle.paths.specs.Verdicts.{verdict}
 use Rattle.paths.specs.Chains.{asked, Step, step_words, chain, ChainIs, first_chain}
-use Rattle.paths.specs.ChainLaws.{Inside}
-use Rattle.paths.specs.PairLaws.{fit_inside, withdrawn_out, in_use as record-in-use}
-use Rattle.paths.specs.FirstChainLaws.{has_first}
+use Rattle.paths.specs.Inside.{Inside}
+use Rattle.paths.proofs.PairLaws.{fit_inside, withdrawn_out, in_use as record-in-use}
+use Rattle.paths.proofs.FirstChainLaws.{has_first}
 use Rattle.paths.specs.Questions.{chain_work, steps, chain_causes, chain_answer, over}
 use Rattle.paths.specs.Questions as questions
 use Rattle.k2.specs.Bits.{digit}

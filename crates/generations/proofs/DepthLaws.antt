@@ -25,7 +25,7 @@ use Rattle.book.specs.Basics.{bit}
 use Rattle.k2.specs.Bits.{ones_below}
 use Rattle.k2.specs.BitLaws.{ones-le}
 use Rattle.k2.specs.PairSetLaws.{bit_small}
-use Rattle.automaton.specs.LevelLaws.{Which, less, same, more, which}
+use Rattle.automaton.proofs.LevelLaws.{Which, less, same, more, which}
 use Rattle.register.specs.MarkLaws.{mark_back}
 use Rattle.arcs.specs.Arcs.{arc_from, arc_to}
 use Rattle.arcs.specs.Index.{first_arc, next_arc, Cursor, Indexed}

@@ -24,7 +24,7 @@ use lib.ListN.{length, get_or, set, take, drop, length-set, drop_of_length-le}
 use lib.Seq.{drop-cons, take-suc, take-suc-set, length-take-le}
 use borrow.Author.Tests.{le-leb, lt-leb, leb-false, eq-eqb, ne_eqb, eqb-true, eqb-false}
 use Rattle.book.specs.Basics.{pick, bit, has}
-use Rattle.book.specs.SetLaws.{or_neither, or-true}
+use Rattle.book.proofs.SetLaws.{or_neither, or-true}
 use Rattle.k2.specs.Bits.{digit}
 use Rattle.k2.specs.DigitLaws.{digit_none, digit_lt, one_shl_32}
 use Rattle.k2.specs.PairSets.{if_set}

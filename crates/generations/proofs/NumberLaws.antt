@@ -12,7 +12,7 @@ use Rattle.k2.specs.Bits.{bit_at}
 use Rattle.k2.specs.PairSets.{Cells, closure}
 use Rattle.rows.specs.Rows.{flat}
 use Rattle.rows.specs.RowLaws.{flat_at}
-use Rattle.automaton.specs.LevelLaws.{Which, less, same, more, which}
+use Rattle.automaton.proofs.LevelLaws.{Which, less, same, more, which}
 use Rattle.register.specs.Marks.{has_mark, withdrawn_mark}
 use Rattle.answers.specs.Written.{Wrote}
 use Rattle.answers.specs.WrittenLaws.{wrote_byte, wrote_then, wrote_as}

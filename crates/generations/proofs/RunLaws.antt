@@ -18,23 +18,23 @@ use borrow.Author.Tests.{eq-eqb, eqb-true}
 use Rattle.book.specs.Basics.{pick, bit, has, In, here, there, All, all_none, all_more}
 use Rattle.book.specs.Book.{Link, Book, present}
 use Rattle.book.specs.Sheets.{Fit}
-use Rattle.book.specs.ListLaws.{in_none, in_front, at_in, in_at}
+use Rattle.book.proofs.ListLaws.{in_none, in_front, at_in, in_at}
 use Rattle.k2.specs.Bits.{digit}
 use Rattle.k2.specs.DigitLaws.{digit_none}
 use Rattle.k2.specs.PairSets.{Cells, IsSet, OneOrMore, once as once-pair, more as more-pairs}
 use Rattle.k2.specs.PairSetLaws.{on_bit, bit_on, closure_leads, leads_closure}
 use Rattle.paths.specs.Expressions.{Letter}
 use Rattle.paths.specs.Chains.{asked, Step, Chain, stay, cross}
-use Rattle.paths.specs.ChainLaws.{Inside}
-use Rattle.paths.specs.PairLaws.{fit_inside}
+use Rattle.paths.specs.Inside.{Inside}
+use Rattle.paths.proofs.PairLaws.{fit_inside}
 use Rattle.paths.specs.Relations.{crossed_by}
-use Rattle.paths.specs.RelationLaws.{crossed_is, is_crossed, crossed_set}
+use Rattle.paths.proofs.RelationLaws.{crossed_is, is_crossed, crossed_set}
 use Rattle.reader.specs.Letters.{letters_in}
 use Rattle.links.specs.Links.{link_word, Linked}
 use Rattle.links.specs.Parts.{link_of}
 use Rattle.links.specs.LinkLaws.{link_of_word}
 use Rattle.rows.specs.RowSets.{labelled, crossed_words}
-use Rattle.query.specs.LetterLaws.{letters_crossed}
+use Rattle.query.proofs.LetterLaws.{letters_crossed}
 use Rattle.arcs.specs.Arcs.{arc_from, arc_to}
 use Rattle.generations.specs.Generations.{Run, stop as stop-run, on as on-run, Longest, Over, Returns}
 use Rattle.generations.specs.GenerationsLaws.{forward_link}

@@ -9,7 +9,7 @@ use Rattle.std.specs.Prelude.{◌≡◌, refl, List, [], ◌∷◌, true, false,
 use Rattle.std.proofs.Common.{◌∙◌, arith, ne_eqb}
 use Rattle.book.specs.Basics.{has, without, In, here, there, All, all_none, all_more}
 use Rattle.book.specs.Causes.{number, first_number}
-use Rattle.book.specs.SetLaws.{same_link_test, has_in}
+use Rattle.book.proofs.SetLaws.{same_link_test, has_in}
 use Rattle.book.specs.Book.{Link, Book, Call, add, edit, causes, edit_answer, edited, turned, next, fresh, after}
 use Rattle.k2.specs.Bits.{digit}
 use Rattle.k2.specs.DigitLaws.{digit_none, digit-suc}
@@ -17,12 +17,12 @@ use Rattle.k2.specs.PairSets.{union, most, via, closure}
 use Rattle.paths.specs.Expressions.{stands_for}
 use Rattle.paths.specs.Chains.{Graph, asked, Step, Chain, stay, cross, spell, step_words}
 use Rattle.paths.specs.Relations.{crossed_by, cells}
-use Rattle.paths.specs.RelationLaws.{cells_has}
-use Rattle.paths.specs.ChainLaws.{Inside}
-use Rattle.paths.specs.PairLaws.{history_inside}
-use Rattle.paths.specs.ChainOrderLaws.{before}
-use Rattle.paths.specs.AcceptanceLaws.{parted, many, accepts}
-use Rattle.paths.specs.FirstChainLaws.{reach, steps_below, before_each, after_each, walks, walks_to, end, best, just, first_to, chain_to, chain_first}
+use Rattle.paths.proofs.RelationLaws.{cells_has}
+use Rattle.paths.specs.Inside.{Inside}
+use Rattle.paths.proofs.PairLaws.{history_inside}
+use Rattle.paths.proofs.ChainOrderLaws.{before}
+use Rattle.paths.proofs.AcceptanceLaws.{parted, many, accepts}
+use Rattle.paths.proofs.FirstChainLaws.{reach, steps_below, before_each, after_each, walks, walks_to, end, best, just, first_to, chain_to, chain_first}
 use Rattle.rows.specs.Rows.{places}
 use Rattle.generations.specs.Generations.{Run, stop, on, Longest, Over, Returns, no_record, not_in_use, in_use, numbers, loop, GenerationsAre, no_loop}
 use Rattle.generations.specs.Generations.{first_loop}

@@ -19,8 +19,8 @@ use Rattle.book.specs.Causes.{short_list}
 use Rattle.book.specs.CauseOrders.{InOrder, none_left, same_cause}
 use Rattle.book.specs.Book.{Book}
 use Rattle.paths.specs.Chains.{Graph, Step, crossing, Chain, stay, cross, step_words}
-use Rattle.paths.specs.ChainOrderLaws.{not_after_both}
-use Rattle.automaton.specs.LevelLaws.{Which, less, same, more, which}
+use Rattle.paths.proofs.ChainOrderLaws.{not_after_both}
+use Rattle.automaton.proofs.LevelLaws.{Which, less, same, more, which}
 use Rattle.generations.specs.Generations.{Run, on, Longest, Over, Returns, FirstLoop, Numbered, no_record, not_in_use, in_use, Outcome, refused, numbers}
 use Rattle.generations.specs.Generations.{loop, GenerationsAre, no_loop, first_loop, written, argument_causes}
 use Rattle.generations.specs.Inner.{generations_order}

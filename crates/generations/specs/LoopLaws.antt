@@ -20,8 +20,8 @@ use Rattle.std.proofs.Math.Dec.{eqb}
 use Rattle.std.proofs.Math.ListN.{length-append}
 use Rattle.book.specs.Basics.{has, In, here, there, All, all_none, all_more}
 use Rattle.book.specs.Causes.{labels}
-use Rattle.book.specs.SetLaws.{and_both}
-use Rattle.book.specs.ListLaws.{in_left, in_right, in_either, in_none, in_front}
+use Rattle.book.proofs.SetLaws.{and_both}
+use Rattle.book.proofs.ListLaws.{in_left, in_right, in_either, in_none, in_front}
 use Rattle.k2.specs.Bits.{digit}
 use Rattle.k2.specs.PairSets.{if_set}
 use Rattle.k2.specs.PairSetLaws.{on_bit, bit_on}
@@ -29,11 +29,13 @@ use Rattle.paths.specs.Expressions.{Letter, Symbol, letter, none_of, stands_for,
 use Rattle.paths.specs.Expressions.{letters, depth}
 use Rattle.paths.specs.Grammar.{bar, open_group, close_group, plus_sign, letter_a, alternatives, Is, one_alternative, more_alternatives, one_part, plain, bare}
 use Rattle.paths.specs.Grammar.{with_plus, is-letter, is_group, accepted, good}
-use Rattle.paths.specs.Verdicts.{verdict, verdict_only}
+use Rattle.paths.specs.Verdicts.{verdict}
+use Rattle.paths.proofs.VerdictLaws.{verdict_only}
 use Rattle.paths.specs.Words.{Words, itself, inside, reversed, left, right, joined, once, again, star_none, star_some, optional_none, optional_once}
 use Rattle.paths.specs.Chains.{Graph, Step, Chain, stay, cross, spell, Answers, First}
-use Rattle.paths.specs.ChainLaws.{Inside, crossing_in, crossing_label}
-use Rattle.automaton.specs.LevelLaws.{Which, less, same, more, which}
+use Rattle.paths.specs.Inside.{Inside}
+use Rattle.paths.proofs.ChainLaws.{crossing_in, crossing_label}
+use Rattle.automaton.proofs.LevelLaws.{Which, less, same, more, which}
 use Rattle.rows.specs.Rows.{places}
 use Rattle.rows.specs.RowLaws.{length-places}
 use Rattle.generations.specs.Generations.{Over, Loop, FirstLoop}

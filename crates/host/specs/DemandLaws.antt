@@ -15,7 +15,7 @@ use Rattle.answers.specs.declared.Counted.TheVariants.{Count, Refused}
 use Rattle.k2.specs.PairSets.{pair_word}
 use Rattle.paths.specs.Chains.{asked, Has}
 use Rattle.paths.specs.Expressions.{Expr}
-use Rattle.paths.specs.PairLaws.{history_inside, history_small}
+use Rattle.paths.proofs.PairLaws.{history_inside, history_small}
 use Rattle.paths.specs.Questions.{Engine}
 use Rattle.links.specs.Links.{Linked}
 use Rattle.register.specs.History.{Lent}
@@ -26,7 +26,7 @@ use Rattle.engine.specs.Demand.{Question, Transcript, book_after, PairsClaim, Ch
 use Rattle.engine.specs.declared.Ends.{Ends}
 use Rattle.engine.specs.DemandLaws.{pairs_claim, chain_claim}
 use Rattle.host.specs.Host.{past_counts, told_counted, told_chain, Told}
-use Rattle.host.specs.HostLaws.{words_made, calls_past, total_book}
+use Rattle.host.proofs.HostLaws.{words_made, calls_past, total_book}
 use Rattle.host.specs.Demand.{Dealings, heard, Kept, ExportedDemand}
 
 links_told : (b : Book) (l : Lent) (k : ℕ) (ws : List ℕ) (a : Counted) → Linked ws b.sheet → FirstPart ws l.before l.after a → k ≡ told_counted a

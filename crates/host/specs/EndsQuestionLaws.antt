@@ -15,10 +15,10 @@ use Rattle.register.specs.History.{Lent}
 use Rattle.arcs.specs.SpanLaws.{inside}
 use Rattle.ends.specs.Ends.{EndsAre, StartsAre}
 use Rattle.ends.specs.Asking.{AsksEnds, AsksStarts}
-use Rattle.ends.specs.MadeLaws.{book_ends as ends-of-book, book_starts as starts-of-book}
+use Rattle.ends.proofs.MadeLaws.{book_ends as ends-of-book, book_starts as starts-of-book}
 use Rattle.host.specs.Host.{KeepsBook, Freshens, told_counted, Asked}
 use Rattle.host.specs.Histories.{Calls}
-use Rattle.host.specs.HostLaws.{calls_book, asked_book}
+use Rattle.host.proofs.HostLaws.{calls_book, asked_book}
 
 -- of a fresh register's words and any calls
 module _ {n : ℕ} {space ws : List ℕ} {opened : ℕ} (F : Freshens n space ws opened) (ok : opened ≡ 0) {cs : List Call} {vs ks : List ℕ} {ls : List Lent}

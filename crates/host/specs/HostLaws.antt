@@ -30,7 +30,7 @@ use Rattle.chains.specs.declared.ChainAnswer.TheVariants.{Chain, NoChain, Refuse
 use Rattle.register.specs.Drafts.{draft_calls, made_words}
 use Rattle.register.specs.declared.DraftAnswer.{DraftAnswer}
 use Rattle.host.specs.Drafts.{Applies}
-use Rattle.host.specs.DraftLaws.{made_told}
+use Rattle.host.proofs.DraftLaws.{made_told}
 use Rattle.host.specs.Histories.{Calls, none, then_call, then_close, then_draft, refused_draft, WordsMade}
 use Rattle.host.specs.Host.{KeepsBook, past_counts, told_counted, told_chain, Told, Asked, TellsTotal}
 

@@ -16,11 +16,11 @@ use Rattle.offsets.specs.Answers.{OffsetsFor, told_offsets, OffsetsTold}
 use Rattle.offsets.specs.declared.Tie.{Tie}
 use Rattle.host.specs.Host.{KeepsBook, told_counted, told_chain, Told, Asked}
 use Rattle.host.specs.Histories.{WordsMade}
-use Rattle.host.specs.HostLaws.{words_made, asked_book, chain_book}
+use Rattle.host.proofs.HostLaws.{words_made, asked_book, chain_book}
 use Rattle.host.specs.Previews.{Previewed, foreseen}
 use Rattle.host.specs.Generations.{told_generations}
-use Rattle.host.specs.GenerationsLaws.{generations_book}
-use Rattle.host.specs.OffsetsLaws.{offsets_book}
+use Rattle.host.proofs.GenerationsLaws.{generations_book}
+use Rattle.host.proofs.OffsetsLaws.{offsets_book}
 
 module _ {n : ℕ} {cs : List Call} {ws vs ks : List ℕ} {ls : List Lent} (M : WordsMade n cs ws vs ks ls) where
   kept : KeepsBook vs (after (fresh n) cs)

@@ -10,7 +10,7 @@ use Rattle.answers.specs.declared.Counted.TheVariants.{Count}
 use Rattle.pages.specs.PageCalls.{Prints, ReadsPages}
 use Rattle.pages.specs.RoundTripLaws.{print_read}
 use Rattle.host.specs.Host.{KeepsBook, past_counts, told_counted, Told, Asked}
-use Rattle.host.specs.HostLaws.{count_told}
+use Rattle.host.proofs.HostLaws.{count_told}
 
 module _ {ws before after : List ℕ} {k : ℕ} (text : List ℕ) (work : ℕ) (b : Book) (h : KeepsBook ws b)
     (q : Asked ws (λ r. Prints r text work before after) told_counted before after k) where

@@ -24,7 +24,7 @@ use Rattle.register.specs.History.{Lent}
 use Rattle.register.specs.Marks.{mark_of}
 use Rattle.host.specs.Host.{KeepsBook, told_counted, Told, Asked}
 use Rattle.host.specs.Histories.{WordsMade}
-use Rattle.host.specs.HostLaws.{words_made}
+use Rattle.host.proofs.HostLaws.{words_made}
 use Rattle.host.specs.Reading.{ReadsTotals, ReadsMarks}
 
 unfoldable pub values_below : (ℕ → ℕ) → ℕ → List ℕ

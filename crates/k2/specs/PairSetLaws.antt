@@ -28,8 +28,8 @@ use Prim.Native.Nat.{ℕ, zero, suc, ◌+◌, ◌*◌, ◌/◌, ◌%◌, ◌≤�
 use Rattle.std.proofs.Math.Decide.{dec_lt}
 use Rattle.std.proofs.Math.Dec.{eqb}
 use Rattle.book.specs.Basics.{bit, has, In, here, Rises, ended, rises}
-use Rattle.book.specs.ListLaws.{in_left, in_right, in_either, in_none, in_one}
-use Rattle.book.specs.SetLaws.{eqb_test, has_in, in_has}
+use Rattle.book.proofs.ListLaws.{in_left, in_right, in_either, in_none, in_one}
+use Rattle.book.proofs.SetLaws.{eqb_test, has_in, in_has}
 use Rattle.k2.specs.PairSets.{Cells, IsSet, pair_word, if_set, row_pairs, rows_pairs, listed, set_of, PairsBelow, union, intersection, difference, transpose}
 use Rattle.k2.specs.PairSets.{most, serves, product, OneOrMore, once, more, via, closure, diagonal}
 

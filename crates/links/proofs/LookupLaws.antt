@@ -20,9 +20,9 @@ use borrow.Author.Tests.{ltb-true, ltb-false, lt-ltb, le-ltb, eqb-true, eq-eqb, 
 use Rattle.book.specs.Basics.{pick, In, here, there, Rises, ended, rises}
 use Rattle.book.specs.Causes.{max_records}
 use Rattle.book.specs.Book.{Link, Sheet, present, touched}
-use Rattle.book.specs.ListLaws.{in_front, in_none, in_at, at_in, map_in, in_map, rises_from}
+use Rattle.book.proofs.ListLaws.{in_front, in_none, in_at, at_in, map_in, in_map, rises_from}
 use Rattle.book.specs.Sheets.{Fit}
-use Rattle.book.specs.BookLaws.{touched_end, end_touched}
+use Rattle.book.proofs.BookLaws.{touched_end, end_touched}
 use Rattle.links.specs.Links.{link_word, Linked}
 use Rattle.links.specs.Parts.{link_of, link_pair}
 use Rattle.links.specs.Ascending.{Seam}

@@ -15,8 +15,8 @@ use Rattle.std.proofs.Common.{ap, sym, subst, ◌∙◌, inl, inr, ⊎_elim, tru
 use Rattle.std.proofs.lemmas.Bool.{false≢true, eqb-false}
 use Rattle.std.proofs.Math.Dec.{leb-suc-suc}
 use Rattle.book.specs.Basics.{pick, In, here, there, has, without, Rises, ended, rises}
-use Rattle.book.specs.ListLaws.{rises_least, rises_from, in_front}
-use Rattle.book.specs.SetLaws.{eqb_test, and_both, has_in, without_absent}
+use Rattle.book.proofs.ListLaws.{rises_least, rises_from, in_front}
+use Rattle.book.proofs.SetLaws.{eqb_test, and_both, has_in, without_absent}
 use Rattle.links.specs.Ascending.{insert, put_at, cut_at, Seam, stands_at}
 
 -- how many of the first numbers are below x

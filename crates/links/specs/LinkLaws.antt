@@ -4,9 +4,9 @@ use Rattle.std.proofs.Common.{sym, ap, subst, ◌∙◌, arith, eqb-true, eq-eqb
 use Rattle.book.specs.Basics.{In, has}
 use Rattle.book.specs.Causes.{max_records}
 use Rattle.book.specs.Book.{Link, same_link, Sheet, present, touched}
-use Rattle.book.specs.ListLaws.{map_in, in_map}
-use Rattle.book.specs.BookLaws.{touched_end, end_touched}
-use Rattle.book.specs.SetLaws.{eqb_test, same_link_test, has_in, in_has}
+use Rattle.book.proofs.ListLaws.{map_in, in_map}
+use Rattle.book.proofs.BookLaws.{touched_end, end_touched}
+use Rattle.book.proofs.SetLaws.{eqb_test, same_link_test, has_in, in_has}
 use Rattle.book.specs.Sheets.{Proper, Fit}
 use Rattle.links.specs.Links.{link_word, Linked}
 use Rattle.links.specs.Parts.{link_of}

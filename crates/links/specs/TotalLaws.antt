@@ -13,8 +13,8 @@ use Rattle.std.proofs.lemmas.Bool.{eqb-false}
 use Rattle.book.specs.Basics.{pick, bit, has, without, tally, Rises, ended, rises}
 use Rattle.book.specs.Causes.{labels, max_links}
 use Rattle.book.specs.Sheets.{Distinct}
-use Rattle.book.specs.SetLaws.{eqb_test}
-use Rattle.book.specs.TotalLaws.{tally_le, tally_without}
+use Rattle.book.proofs.SetLaws.{eqb_test}
+use Rattle.book.proofs.TotalLaws.{tally_le, tally_without}
 use Rattle.links.specs.Parts.{label_unit, word_total}
 use Rattle.links.specs.Ascending.{insert}
 use Rattle.links.specs.Totals.{TotalsOf, Raised, Lowered}

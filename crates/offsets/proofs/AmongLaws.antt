@@ -17,7 +17,7 @@ use lib.ListN.{length, take, get_or-append}
 use lib.Signed.{mag}
 use Rattle.book.specs.Causes.{short_work, short_list, number, first_number, max_records}
 use Rattle.book.specs.Book.{is_withdrawn}
-use Rattle.book.specs.BookLaws.{first_caused}
+use Rattle.book.proofs.BookLaws.{first_caused}
 use Rattle.answers.specs.Answers.{counted}
 use Rattle.answers.specs.AnswerLaws.{contained_refused, contained_count}
 use Rattle.register.specs.Inner.{SizeIn}
@@ -29,18 +29,19 @@ use Rattle.register.specs.declared.Register.{Register}
 use Rattle.offsets.specs.declared.Tie.{Tie}
 use Rattle.offsets.specs.Relax.{State, dist, settled}
 use Rattle.offsets.specs.Offsets.{Placing, Places, cannot, limits, OffsetsAre}
-use Rattle.offsets.specs.ThirdLaws.{Ready}
+use Rattle.offsets.proofs.ThirdLaws.{Ready}
 use Rattle.offsets.specs.Thirds.{Starts}
-use Rattle.offsets.specs.ArcLaws.{arcs3}
-use Rattle.offsets.specs.PassLaws.{settled_is, passes_length}
-use Rattle.offsets.specs.Finds.{ran, least-word, most-word, Told, Fits, cannot_exactly, cannot_are, told_are}
-use Rattle.offsets.specs.BoundLaws.{words_fit}
-use Rattle.offsets.specs.FrontLaws.{beside, ran_front}
+use Rattle.offsets.proofs.ArcLaws.{arcs3}
+use Rattle.offsets.proofs.PassLaws.{settled_is, passes_length}
+use Rattle.offsets.specs.Finds.{ran, least-word, most-word, Told, Fits}
+use Rattle.offsets.proofs.FindsLaws.{cannot_exactly, cannot_are, told_are}
+use Rattle.offsets.proofs.BoundLaws.{words_fit}
+use Rattle.offsets.proofs.FrontLaws.{beside, ran_front}
 use Rattle.offsets.specs.Answers.{OffsetsAnswer, Refused, told_offsets, OffsetsTold, offsets_causes, OffsetsFor, offsets_counted}
 use Rattle.offsets.specs.Answers as answers
 use Rattle.offsets.specs.Inner.{Records, Plan, Begins, rounds_of, is_withdrawn_in, judge_all, or_else, Filled, Plans, HandsOver, Among}
 use Rattle.offsets.specs.Inner as inner
-use Rattle.offsets.specs.JudgeLaws.{causes_are, no_cause_ready}
+use Rattle.offsets.proofs.JudgeLaws.{causes_are, no_cause_ready}
 
 -- ---- the front of the work
 -- the words of a record read the front alone

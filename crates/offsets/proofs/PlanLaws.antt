@@ -12,7 +12,7 @@ use lib.ListN.{length}
 use borrow.Author.Tests.{leb-false, lt-ltb, le-ltb}
 use Rattle.book.specs.Basics.{pick}
 use Rattle.book.specs.Causes.{no_record, short_work, first_number, number}
-use Rattle.book.specs.BookLaws.{first-none}
+use Rattle.book.proofs.BookLaws.{first-none}
 use Rattle.answers.specs.Answers.{refusal}
 use Rattle.offsets.specs.Answers.{Refused, offsets_work}
 use Rattle.offsets.specs.Thirds.{Starts}

@@ -13,8 +13,9 @@ use mir.Syntax.{w64}
 use mir.Val.{to_z, of_z}
 use borrow.Author.Tests.{lt-ltb, le-ltb, eq-eqb, ne_eqb}
 use Rattle.offsets.specs.Relax.{dist}
-use Rattle.offsets.specs.ArcLaws.{set_ind}
-use Rattle.offsets.specs.Thirds.{firstly, firstly_ind, Starts}
+use Rattle.offsets.proofs.ArcLaws.{set_ind}
+use Rattle.offsets.specs.Thirds.{firstly, Starts}
+use Rattle.offsets.proofs.ThirdsLaws.{firstly_ind}
 use Rattle.offsets.proofs.IntegerLaws.{bits_back}
 
 abbrev pub Begun : ℕ → ℕ → ℕ → List ℤ → Type 0

@@ -23,10 +23,10 @@ use lib.Signed.{mag, lt_z, le_z}
 use mir.Syntax.{w32, w64}
 use mir.Val.{SFits, to_z, of_z}
 use borrow.Author.Tests.{lt-ltb, le-ltb}
-use Rattle.offsets.specs.LinearLaws.{to_eq, of_sub, of_pos, of_neg_up, of_neg_down}
+use Rattle.offsets.proofs.LinearLaws.{to_eq, of_sub, of_pos, of_neg_up, of_neg_down}
 use Rattle.offsets.specs.Relax.{known, dist}
 use Rattle.offsets.specs.Thirds.{choose}
-use Rattle.offsets.specs.ArcLaws.{set_ind}
+use Rattle.offsets.proofs.ArcLaws.{set_ind}
 use Rattle.offsets.specs.Finds.{least-word, most-word, Told, Fits}
 use Rattle.offsets.proofs.IntegerLaws.{bits_back, mag-neg, within, under, over}
 

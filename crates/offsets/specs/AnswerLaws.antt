@@ -5,7 +5,7 @@
 use Rattle.std.specs.Prelude.{◌≡◌, refl, ◌⊎◌, List, ℕ, zero, suc, ◌+◌, ◌*◌, ◌/◌, ◌%◌, ◌<◌, ℤ, pos, ◌-ℤ◌, length, get_or, ◌≤ℤ◌}
 use Rattle.std.proofs.Common.{sym, ap, ◌∙◌, subst, inl, inr, arith, ext_get_or}
 use Rattle.offsets.specs.declared.Tie.{Tie}
-use Rattle.offsets.specs.LinearLaws.{to_eq, of_sub, of_pos, ≤ℤ-antisym}
+use Rattle.offsets.proofs.LinearLaws.{to_eq, of_sub, of_pos, ≤ℤ-antisym}
 use Rattle.offsets.specs.Offsets.{Placing, Places, Narrowest, Limit, itself, joined, free, Answer, limits, OffsetsAre, none, some}
 
 pub narrowest_only : (ts : List Tie) (base x : ℕ) (lo hi lo' hi' : ℤ) → Narrowest ts base x lo hi → Narrowest ts base x lo' hi' → (lo ≡ lo') × (hi ≡ hi')

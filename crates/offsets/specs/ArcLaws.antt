@@ -27,13 +27,13 @@ use Rattle.std.proofs.Common.{sym, ap, ◌∙◌, subst, true≢false, arith, le
 use Rattle.std.specs.Int.Signed.{lt_z, ≤ℤ_refl, clash_ℤ}
 use Rattle.std.proofs.lemmas.Bool.{eqb-false}
 use Rattle.book.specs.Basics.{In, here, there}
-use Rattle.book.specs.ListLaws.{in_none}
+use Rattle.book.proofs.ListLaws.{in_none}
 use Rattle.offsets.specs.declared.Tie.{Tie}
-use Rattle.offsets.specs.LinearLaws.{of_le, of_lt, of_ltb, of_not_ltb, to_le, to_lt, of_add, of_sub, of_neg_up, of_neg_down, least_as_sum, most_as_sum}
-use Rattle.offsets.specs.LinearLaws.{≤ℤ-trans}
+use Rattle.offsets.proofs.LinearLaws.{of_le, of_lt, of_ltb, of_not_ltb, to_le, to_lt, of_add, of_sub, of_neg_up, of_neg_down, least_as_sum, most_as_sum}
+use Rattle.offsets.proofs.LinearLaws.{≤ℤ-trans}
 use Rattle.offsets.specs.Relax.{State, known, dist, lower, third, relaxed, relax_tie, relax_all}
 use Rattle.offsets.specs.Offsets.{Placing, Places}
-use Rattle.offsets.specs.PlacingLaws.{pick_ind, by_test}
+use Rattle.offsets.proofs.PlacingLaws.{pick_ind, by_test}
 
 pub record Arc : Type 0 where
   pub from : ℕ

@@ -12,15 +12,16 @@ use Rattle.std.proofs.lemmas.Bool.{false≢true}
 use native.Mathlib.Omega.{arith}
 use Rattle.std.specs.Int.Signed.{mag}
 use Rattle.book.specs.Basics.{In, here, there}
-use Rattle.book.specs.ListLaws.{in_none}
+use Rattle.book.proofs.ListLaws.{in_none}
 use Rattle.offsets.specs.declared.Tie.{Tie}
-use Rattle.offsets.specs.LinearLaws.{up, down, to_eq, of_add, of_sub, of_pos, of_neg_up, of_neg_down, ≤ℤ-trans}
+use Rattle.offsets.proofs.LinearLaws.{up, down, to_eq, of_add, of_sub, of_pos, of_neg_up, of_neg_down, ≤ℤ-trans}
 use Rattle.offsets.specs.Offsets.{Placing, Places, Joined, self, onward, Limit, itself, joined, free}
-use Rattle.offsets.specs.SettleLaws.{out, out_length, out_others, span, span_length, span_all}
-use Rattle.offsets.specs.PassLaws.{Near, near_add, mag_parts}
-use Rattle.offsets.specs.ThirdLaws.{Allowed, Ready, near_ends, near_neg}
+use Rattle.offsets.proofs.SettleLaws.{out, out_length, out_others, span, span_length, span_all}
+use Rattle.offsets.proofs.PassLaws.{Near, near_add, mag_parts}
+use Rattle.offsets.proofs.ThirdLaws.{Allowed, Ready, near_ends, near_neg}
 use Rattle.offsets.specs.Thirds.{Starts}
-use Rattle.offsets.specs.Finds.{ran, least-word, most-word, Fits, limit_at}
+use Rattle.offsets.specs.Finds.{ran, least-word, most-word, Fits}
+use Rattle.offsets.proofs.FindsLaws.{limit_at}
 
 -- a tie that passes a test, or none
 find : (f : Tie → Bool) (ts : List Tie) → ((t : Tie) → In t ts → f t ≡ false) ⊎ ((t : Tie) × (In t ts × (f t ≡ true)))

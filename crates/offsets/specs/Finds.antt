@@ -20,17 +20,9 @@ use Rattle.std.proofs.Math.Bool.{true, false, true≢false}
 use native.Mathlib.Omega.{arith}
 use Rattle.std.specs.Int.Signed.{mag}
 use Rattle.offsets.specs.declared.Tie.{Tie}
-use Rattle.offsets.specs.LinearLaws.{of_le, to_le, to_eq, of_sub, of_pos, of_neg_up, of_neg_down}
 use Rattle.offsets.specs.Relax.{State, known, dist, settled}
 use Rattle.offsets.specs.Offsets.{Placing, Places, Joined, self, Limit, itself, joined, free, Answer, cannot, limits, OffsetsAre, none, some}
-use Rattle.offsets.specs.ArcLaws.{arcs3, turned}
-use Rattle.offsets.specs.PassLaws.{settled_is}
-use Rattle.offsets.specs.SettleLaws.{passes}
-use Rattle.offsets.specs.AnswerLaws.{limit_only}
-use Rattle.offsets.specs.ThirdLaws.{Ready, joined_known, most_attained}
-use Rattle.offsets.specs.Thirds.{choose, Starts, thirds_settle, near_at, base_at, known_joined, second_holds, third_holds, first_places, under_second}
-use Rattle.offsets.specs.Thirds.{under_third}
-use Rattle.offsets.specs.TurnedTieLaws.{neg, turned_places, places_turned, turned_joined, turned_ready}
+use Rattle.offsets.specs.Thirds.{choose, Starts}
 
 -- ---- what a program does
 unfoldable pub ran : ℕ → List Tie → List ℤ → State

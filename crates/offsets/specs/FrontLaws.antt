@@ -13,11 +13,11 @@ use borrow.Author.Tests.{lt-ltb}
 use Rattle.book.specs.Basics.{In, here, there}
 use Rattle.offsets.specs.declared.Tie.{Tie}
 use Rattle.offsets.specs.Relax.{State, pick, known, dist, lower}
-use Rattle.offsets.specs.ArcLaws.{Arc, arc, run, arcs3, turned, of_thirds, arc_length, run_length}
-use Rattle.offsets.specs.SettleLaws.{passes}
-use Rattle.offsets.specs.PassLaws.{settled_is}
-use Rattle.offsets.specs.ThirdLaws.{Ready, ready_inside}
-use Rattle.offsets.specs.TurnedTieLaws.{turned_ready}
+use Rattle.offsets.proofs.ArcLaws.{Arc, arc, run, arcs3, turned, of_thirds, arc_length, run_length}
+use Rattle.offsets.proofs.SettleLaws.{passes}
+use Rattle.offsets.proofs.PassLaws.{settled_is}
+use Rattle.offsets.proofs.ThirdLaws.{Ready, ready_inside}
+use Rattle.offsets.proofs.TurnedTieLaws.{turned_ready}
 use Rattle.offsets.specs.Finds.{ran}
 
 abbrev pub beside : List ℤ → State → State

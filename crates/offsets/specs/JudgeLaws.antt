@@ -15,11 +15,11 @@ use Rattle.std.specs.Int.Signed.{lt_z}
 use Rattle.book.specs.Basics.{In, here, there}
 use Rattle.book.specs.Causes.{no_record, withdrawn_record, bad_tie, short_work, first_number, number, max_records}
 use Rattle.book.specs.CauseOrders.{InOrder, none_left, same_cause, offsets_order}
-use Rattle.book.specs.BookLaws.{first-none}
-use Rattle.book.specs.SetLaws.{or_neither}
+use Rattle.book.proofs.BookLaws.{first-none}
+use Rattle.book.proofs.SetLaws.{or_neither}
 use Rattle.offsets.specs.declared.Tie.{Tie}
-use Rattle.offsets.specs.LinearLaws.{to_le, of_not_ltb}
-use Rattle.offsets.specs.ThirdLaws.{Ready}
+use Rattle.offsets.proofs.LinearLaws.{to_le, of_not_ltb}
+use Rattle.offsets.proofs.ThirdLaws.{Ready}
 use Rattle.offsets.specs.Answers.{max_ties, max_rings, outside, any_tie, offsets_work, offsets_causes}
 use Rattle.offsets.specs.Inner.{Records, is_withdrawn_in, sooner, three, tie_number, base_number, judge_all, or_else}
 

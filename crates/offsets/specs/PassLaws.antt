@@ -19,10 +19,10 @@ use Rattle.std.proofs.Common.{sym, ap, ◌∙◌, subst, inl, inr, true≢false,
 use Rattle.std.specs.Int.Signed.{mag, ≤ℤ_refl}
 use Rattle.book.specs.Basics.{In, here, there}
 use Rattle.offsets.specs.declared.Tie.{Tie}
-use Rattle.offsets.specs.LinearLaws.{up, down, of_add, ≤ℤ-trans}
+use Rattle.offsets.proofs.LinearLaws.{up, down, of_add, ≤ℤ-trans}
 use Rattle.offsets.specs.Relax.{State, pick, known, dist, settled}
-use Rattle.offsets.specs.ArcLaws.{Arc, arcs3, arc, run, run_is, Holds, lower_ind, set_ind, arc_length, run_down, quiet_holds}
-use Rattle.offsets.specs.SettleLaws.{one_pass, passes}
+use Rattle.offsets.proofs.ArcLaws.{Arc, arcs3, arc, run, run_is, Holds, lower_ind, set_ind, arc_length, run_down, quiet_holds}
+use Rattle.offsets.proofs.SettleLaws.{one_pass, passes}
 
 -- ---- what passes keep
 run_keeps : (Q : List ℤ → Type 0) (cs : List Arc) → ((a : Arc) → In a cs → (s : State) → Q s.0 → Q (arc a s).0) → (s : State) → Q s.0 → Q (run cs s).0

@@ -6,7 +6,7 @@ use Rattle.std.specs.Prelude.{◌≡◌, refl, ℕ, ◌<◌, Bool, true, false, 
 use Rattle.std.proofs.Common.{sym, subst, arith, length-set, get_or-set_same, get_or-set_other, ltb-true, eqb-true}
 use Rattle.std.specs.Int.Signed.{lt_z}
 use Rattle.std.proofs.lemmas.Bool.{eqb-false}
-use Rattle.offsets.specs.LinearLaws.{of_le, to_le, of_add}
+use Rattle.offsets.proofs.LinearLaws.{of_le, to_le, of_add}
 use Rattle.offsets.specs.Relax.{State, pick, known, dist, lower}
 
 abbrev pub Placing : Type 0

@@ -23,12 +23,12 @@ use Rattle.std.proofs.Common.{sym, ap, ◌∙◌, subst, inl, inr, true≢false,
 use Rattle.std.proofs.Math.Decide.{dec_lt}
 use Rattle.std.specs.Int.Signed.{le_z, ≤ℤ_refl, clash_ℤ, <ℤ-≤ℤ_trans}
 use Rattle.book.specs.Basics.{In, here, there}
-use Rattle.book.specs.ListLaws.{in_none}
-use Rattle.offsets.specs.LinearLaws.{of_le, of_leb, of_not_leb, to_le, to_lt, of_add, of_sub, ≤ℤ-trans}
+use Rattle.book.proofs.ListLaws.{in_none}
+use Rattle.offsets.proofs.LinearLaws.{of_le, of_leb, of_not_leb, to_le, to_lt, of_add, of_sub, ≤ℤ-trans}
 use Rattle.offsets.specs.Relax.{State, pick, known, dist}
 use Rattle.offsets.specs.Offsets.{Placing}
-use Rattle.offsets.specs.ArcLaws.{Arc, Keeps, arc, run, Holds, lower_ind, set_ind, run_down, holds_quiet, lt-le}
-use Rattle.offsets.specs.PlacingLaws.{by_test}
+use Rattle.offsets.proofs.ArcLaws.{Arc, Keeps, arc, run, Holds, lower_ind, set_ind, run_down, holds_quiet, lt-le}
+use Rattle.offsets.proofs.PlacingLaws.{by_test}
 
 -- ---- lists of records
 -- a list without one of its members

@@ -24,18 +24,8 @@ use Rattle.std.specs.Int.Signed.{≤ℤ_refl}
 use Rattle.std.proofs.lemmas.Bool.{eqb-false}
 use Rattle.book.specs.Basics.{In}
 use Rattle.offsets.specs.declared.Tie.{Tie}
-use Rattle.offsets.specs.LinearLaws.{up, down, of_le, to_le, of_add, of_sub, of_pos, ≤ℤ-trans}
 use Rattle.offsets.specs.Relax.{known, dist}
-use Rattle.offsets.specs.PlacingLaws.{Under, under_lower}
 use Rattle.offsets.specs.Offsets.{Placing, Places, Joined, self}
-use Rattle.offsets.specs.ArcLaws.{Arc, up_arc, down_arc, arcs, arcs3, at, turned, of_thirds, arc_in_first, arc_in_second, arc_in_third, length_arcs3}
-use Rattle.offsets.specs.ArcLaws.{in_up}
-use Rattle.offsets.specs.ArcLaws.{in_down, Keeps, keeps_places, sums_meet}
-use Rattle.offsets.specs.SettleLaws.{passes, passes_settle, span, span_length, span_in, span_all}
-use Rattle.offsets.specs.PassLaws.{passes_keep, passes_length, passes_hold, passes_down, Near, near_known, far, known_not_far, Small, passes_ranged}
-use Rattle.offsets.specs.PassLaws.{passes_reached}
-use Rattle.offsets.specs.ThirdLaws.{Ready, far_over, ready_small, ready_inside, joined_arc}
-use Rattle.offsets.specs.TurnedTieLaws.{neg, turned_places, places_turned, turned_ready}
 
 abbrev pub choose : Bool → ℤ → ℤ → ℤ
 choose true y z = y

@@ -9,10 +9,10 @@ use Rattle.std.specs.Prelude.{◌≡◌, refl, List, [], ◌∷◌, ℕ, suc, �
 use Rattle.std.proofs.Common.{sym, ap, subst, inl, inr, arith}
 use Rattle.book.specs.Basics.{In, here, there}
 use Rattle.offsets.specs.declared.Tie.{Tie}
-use Rattle.offsets.specs.LinearLaws.{of_le, to_le, of_sub, of_neg_up, of_neg_down}
+use Rattle.offsets.proofs.LinearLaws.{of_le, to_le, of_sub, of_neg_up, of_neg_down}
 use Rattle.offsets.specs.Offsets.{Placing, Meets, Places, Joined, self, onward}
-use Rattle.offsets.specs.ArcLaws.{turn, turned}
-use Rattle.offsets.specs.ThirdLaws.{Allowed, Ready}
+use Rattle.offsets.proofs.ArcLaws.{turn, turned}
+use Rattle.offsets.proofs.ThirdLaws.{Allowed, Ready}
 
 abbrev pub neg : Placing → Placing
 neg p x = neg_ℤ (p x)

@@ -10,14 +10,14 @@ use mathlib.Core.List.{List}
 use Prim.Native.Nat.{ℕ, ◌/◌, ◌≤◌, ◌<◌}
 use native.Mathlib.Omega.{arith}
 use lib.ListN.{length}
-use Rattle.book.specs.BookLaws.{caused_positive}
+use Rattle.book.proofs.BookLaws.{caused_positive}
 use Rattle.k2.specs.PairSets.{Cells}
 use Rattle.paths.specs.Expressions.{Expr}
 use Rattle.paths.specs.Grammar.{Verdict, accepted, long, outside, large}
 use Rattle.paths.specs.Chains.{asked}
 use Rattle.paths.specs.Relations.{cells, pairs}
-use Rattle.paths.specs.RelationLaws.{cells_set}
-use Rattle.paths.specs.PairLaws.{fit_inside}
+use Rattle.paths.proofs.RelationLaws.{cells_set}
+use Rattle.paths.proofs.PairLaws.{fit_inside}
 use Rattle.paths.specs.Verdicts.{verdict}
 use Rattle.answers.specs.Answers.{counted, Whole}
 use Rattle.answers.specs.AnswerLaws.{contained_refused}
@@ -31,7 +31,7 @@ use Rattle.rows.specs.Rows.{flat}
 use Rattle.rowpairs.specs.Evaluation.{Relating}
 use Rattle.rowpairs.specs.RelatingLaws.{relating_refused, relating_made}
 use Rattle.rowpairs.specs.declared.Related.{Related}
-use Rattle.query.specs.AskingLaws.{asked_enough, handed_tells, whole_contained}
+use Rattle.query.proofs.AskingLaws.{asked_enough, handed_tells, whole_contained}
 use Rattle.pages.specs.Pages.{pages}
 use Rattle.pages.specs.PageCalls.{print_outcome, Prints, ReadsPages}
 use Rattle.pages.specs.PageCallLaws.{Content, listing, nothing, are_pages, no_pages, read_outcome, reads_by}

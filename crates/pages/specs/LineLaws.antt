@@ -25,7 +25,7 @@ use Rattle.std.proofs.Math.ListN.{length, length-take, length-drop}
 use Rattle.std.proofs.lemmas.List.{length-replicate}
 use Rattle.std.proofs.Math.Seq.{take-nil, length-take-le}
 use Rattle.report.specs.Report.{newline, figure_0, decimal, lines}
-use Rattle.report.specs.ReportLaws.{decimal_small, decimal_more, length_decimal}
+use Rattle.report.proofs.ReportLaws.{decimal_small, decimal_more, length_decimal}
 use Rattle.pages.specs.Pages.{joined, part, parts, blanks, padded, right_aligned, record_cell, pair_cell, pair_line, head_line, page, pages}
 use Rattle.pages.specs.Lines.{pair_words, most_lines, pairs_before, lines_of, line_with, line_of, Small}
 

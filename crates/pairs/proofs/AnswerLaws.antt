@@ -13,8 +13,8 @@ use Rattle.k2.specs.Bits.{bit_at}
 use Rattle.paths.specs.Expressions.{Expr}
 use Rattle.paths.specs.Chains.{asked}
 use Rattle.paths.specs.Relations.{cells, pairs}
-use Rattle.paths.specs.RelationLaws.{cells_set}
-use Rattle.paths.specs.PairLaws.{fit_inside}
+use Rattle.paths.proofs.RelationLaws.{cells_set}
+use Rattle.paths.proofs.PairLaws.{fit_inside}
 use Rattle.rows.specs.Rows.{flat}
 use Rattle.rows.specs.RowSets.{pairs_in}
 use Rattle.rows.specs.RowLaws.{pairs-in, length-places}

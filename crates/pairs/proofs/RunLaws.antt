@@ -15,7 +15,7 @@ use native.Mathlib.Omega.{arith}
 use lib.ListN.{length, take, drop, get_or, length-drop, drop_of_length-le}
 use lib.Seq.{drop-cons}
 use Rattle.book.specs.Book.{Book}
-use Rattle.book.specs.ListLaws.{rest_whole}
+use Rattle.book.proofs.ListLaws.{rest_whole}
 use Rattle.k2.specs.Bits.{bit_at}
 use Rattle.k2.specs.PairSets.{Cells}
 use Rattle.k2.specs.Trees.{tree_unit}
@@ -27,7 +27,7 @@ use Rattle.rows.specs.Rows.{flat}
 use Rattle.reader.specs.declared.items.Item.{Item}
 use Rattle.reader.specs.Code.{item_of, does, run}
 use Rattle.query.specs.Evaluation.{relations, most_waiting, Ready, Coded, Height, Lettered}
-use Rattle.query.specs.EvaluationLaws.{height_begins, height_ready, height_ends}
+use Rattle.query.proofs.EvaluationLaws.{height_begins, height_ready, height_ends}
 use Rattle.tree.specs.declared.operations.Operand.{Operand}
 use Rattle.tree.specs.Inner.{Room as Spaces, term_set, InRows}
 use Rattle.pairs.specs.declared.Stack.{Stack}

@@ -18,7 +18,7 @@ use lib.ListN.{length, take, drop, set, length-set, length-drop}
 use lib.Seq.{drop_at, drop-drop, length-take-le, drop-length, get_or-set_same}
 use borrow.Rule.Slice.PartMut.{put_mid, take_put}
 use Rattle.book.specs.Book.{Book}
-use Rattle.book.specs.ListLaws.{rest_whole, rest_length}
+use Rattle.book.proofs.ListLaws.{rest_whole, rest_length}
 use Rattle.k2.specs.Bits.{bit_at}
 use Rattle.k2.specs.BitLaws.{bit_lt}
 use Rattle.k2.specs.PairSets.{Cells, IsSet, union, diagonal}
@@ -40,8 +40,8 @@ use Rattle.tree.specs.declared.operations.Operand.{Operand}
 use Rattle.tree.specs.Inner.{nothing, tree_alone, flipped, valued, outcome, Room as Spaces, Lent, term_set, TreeAt, Operated}
 use Rattle.tree.specs.InnerLaws.{valued_flipped, valued_alone, valued_nothing, term-set}
 use Rattle.query.specs.Evaluation.{relations, Ready, Lettered}
-use Rattle.query.specs.EvaluationLaws.{height_ready}
-use Rattle.query.specs.LetterLaws.{links_below, letters_crossed, zero_used, used-below}
+use Rattle.query.proofs.EvaluationLaws.{height_ready}
+use Rattle.query.proofs.LetterLaws.{links_below, letters_crossed, zero_used, used-below}
 use Rattle.pairs.specs.declared.Stack.{Stack}
 use Rattle.pairs.specs.declared.Taken.{Taken}
 use Rattle.pairs.specs.Evaluation.{Holding, letters_operand, pushed, turned, on_top, below_top, taken_none, taken_one, taken_two, Standing, Waiting}

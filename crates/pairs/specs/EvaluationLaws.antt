@@ -29,7 +29,7 @@ use Rattle.reader.specs.Code.{item_of, does, run}
 use Rattle.reader.specs.Running.{operands, Runs, next}
 use Rattle.reader.specs.CodeLaws.{runs_code}
 use Rattle.query.specs.Evaluation.{relations, most_waiting, Coded}
-use Rattle.query.specs.EvaluationLaws.{coded_value}
+use Rattle.query.proofs.EvaluationLaws.{coded_value}
 use Rattle.tree.specs.declared.operations.Operation.{Operation}
 use Rattle.tree.specs.declared.operations.Operation.TheVariants.{Union, Product, Closure, Optional as Possible, Star as Starred}
 use Rattle.tree.specs.declared.operations.Operand.{Operand}

@@ -11,7 +11,7 @@ use Rattle.paths.specs.Expressions.{Expr}
 use Rattle.reader.specs.Code.{item_of}
 use Rattle.reader.specs.Running.{operands}
 use Rattle.query.specs.Evaluation.{most_waiting, Coded}
-use Rattle.query.specs.EvaluationLaws.{height_begins, height_next}
+use Rattle.query.proofs.EvaluationLaws.{height_begins, height_next}
 use Rattle.pairs.specs.declared.Stack.{Stack}
 use Rattle.tree.specs.declared.operations.Operand.{Operand}
 use Rattle.tree.specs.Inner.{nothing}

@@ -11,7 +11,7 @@ use Rattle.k2.specs.PairSetLaws.{one_of, bit_on, on_bit, most_some, some_most}
 use Rattle.paths.specs.Expressions.{Letter, Symbol, stands_for, Expr, symbol, group, inverse, star, plus, optional, alternative, sequence}
 use Rattle.paths.specs.Words.{backwards, Words, itself, inside, reversed, left, right, joined, once, again, star_none, star_some, optional_none}
 use Rattle.paths.specs.Words.{optional_once}
-use Rattle.paths.specs.ChainLaws.{backwards_backwards}
+use Rattle.paths.proofs.ChainLaws.{backwards_backwards}
 
 abbrev pub is_letter : Symbol → List Letter → ℕ
 is_letter s [] = 0

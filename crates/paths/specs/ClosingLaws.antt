@@ -13,11 +13,11 @@ use borrow.Author.Tests.{lt-ltb, le-ltb, lt-leb}
 use Rattle.book.specs.Basics.{has}
 use Rattle.book.specs.Causes.{short_work, first_number}
 use Rattle.book.specs.Book.{Link, Book, close, present, used, rank, renamed_link, closed_sheet, closed, answer, next}
-use Rattle.book.specs.ListLaws.{length-map}
-use Rattle.book.specs.SetLaws.{same_link_test, has_map, map_has}
+use Rattle.book.proofs.ListLaws.{length-map}
+use Rattle.book.proofs.SetLaws.{same_link_test, has_map, map_has}
 use Rattle.book.specs.Sheets.{Sound}
-use Rattle.book.specs.CloseLaws.{used-below, link_used, closed_fit}
-use Rattle.book.specs.RankLaws.{rank_less, rank_le, nth, nth_rank, nth_is}
+use Rattle.book.proofs.CloseLaws.{used-below, link_used, closed_fit}
+use Rattle.book.proofs.RankLaws.{rank_less, rank_le, nth, nth_rank, nth_is}
 use Rattle.k2.specs.SizeLaws.{tree_unit_mono}
 use Rattle.paths.specs.Expressions.{Expr}
 use Rattle.paths.specs.Grammar.{Verdict, accepted, long, outside, large, verdict_cause}
@@ -26,10 +26,10 @@ use Rattle.paths.specs.Relations.{pairs}
 use Rattle.paths.specs.Questions.{Outcome, Engine, by_trees, by_rows, paired, replied, unless, row_width, chain_work, work_for, pairs_of, pairs_causes}
 use Rattle.paths.specs.Questions.{pairs_answer, ReplyTo, steps, chain_causes}
 use Rattle.paths.specs.Questions.{chain_answer}
-use Rattle.paths.specs.ChainLaws.{Inside}
-use Rattle.paths.specs.PairLaws.{pairs_are, pairs_only, fit_inside}
+use Rattle.paths.specs.Inside.{Inside}
+use Rattle.paths.proofs.PairLaws.{pairs_are, pairs_only, fit_inside}
 use Rattle.paths.specs.Renaming.{renamed_pair, renamed_step, renamed_reply, renamed_outcome, new_number}
-use Rattle.paths.specs.RenamingLaws.{Renames, reply_renamed, none_back, pairs_renamed}
+use Rattle.paths.proofs.RenamingLaws.{Renames, reply_renamed, none_back, pairs_renamed}
 
 -- ---- lists and outcomes renamed
 take-map : (f : ℕ → ℕ) (k : ℕ) (l : List ℕ) → take k (map f l) ≡ map f (take k l)

@@ -13,8 +13,8 @@ use Rattle.paths.specs.Grammar.{more_alternatives, one_part, more_parts, plain, 
 use Rattle.paths.specs.Grammar.{is_negated, is_set, is_group}
 use Rattle.paths.specs.Descent.{Parse, got, fault, first_byte, rest, is_letter, then, read_mark, read_close, invert_read, read_member, members_in, got_negated}
 use Rattle.paths.specs.Descent.{read_negated, read_alternatives, read_more_alternatives, read_parts, read_more_parts, read_part, read_atom}
-use Rattle.paths.specs.DescentEquationLaws.{if_true, if_false, alternatives_is, more_alternatives_bar, more_alternatives_end, parts_is, more_parts_slash}
-use Rattle.paths.specs.DescentEquationLaws.{more_parts_end, part_hat, part_plain, atom_group, atom_letter, atom_negated, mark_none}
+use Rattle.paths.proofs.DescentEquationLaws.{if_true, if_false, alternatives_is, more_alternatives_bar, more_alternatives_end, parts_is, more_parts_slash}
+use Rattle.paths.proofs.DescentEquationLaws.{more_parts_end, part_hat, part_plain, atom_group, atom_letter, atom_negated, mark_none}
 
 -- no mark comes first
 record NoMark (l : List ℕ) : Type 0 where

@@ -17,7 +17,7 @@ use Rattle.paths.specs.Grammar.{bar, slash, hat, bang, asterisk, plus_sign, ques
 use Rattle.paths.specs.Descent.{Parse, got, fault, first_byte, rest, is_letter, then, read_mark, read_close, invert_read, read_negated, alternatives_in}
 use Rattle.paths.specs.Descent.{more_alternatives_in, parts_in, more_parts_in, part_in, atom_in, read_alternatives, read_more_alternatives, read_parts}
 use Rattle.paths.specs.Descent.{read_more_parts, read_part, read_atom}
-use Rattle.paths.specs.DescentSoundnessLaws.{first_taken, All, nothing, gives, By, read_shorter, sound_alternatives, sound_parts, sound_part}
+use Rattle.paths.proofs.DescentSoundnessLaws.{first_taken, All, nothing, gives, By, read_shorter, sound_alternatives, sound_parts, sound_part}
 
 then_same : {Q : Expr → List ℕ → Type 0} {x : Parse} (k k' : Expr → List ℕ → Parse)
     → All Q x → ((e : Expr) (r : List ℕ) → Q e r → k e r ≡ k' e r) → then x k ≡ then x k'

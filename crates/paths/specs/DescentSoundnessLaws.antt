@@ -9,7 +9,7 @@
 use Rattle.std.specs.Prelude.{◌≡◌, refl, List, [], ◌∷◌, ◌++◌, Bool, true, false, ℕ, zero, suc, ◌+◌, ◌-◌, ◌<◌, leb, ltb, eqb, length}
 use Rattle.std.proofs.Common.{sym, ap, ◌∙◌, subst, append_assoc, arith, length-append, eqb-true, leb-true, ltb-true}
 use Rattle.book.specs.Causes.{labels}
-use Rattle.book.specs.SetLaws.{and_both}
+use Rattle.book.proofs.SetLaws.{and_both}
 use Rattle.paths.specs.Expressions.{Letter, Expr, alternative, sequence}
 use Rattle.paths.specs.Grammar.{bar, slash, hat, bang, asterisk, plus_sign, question_mark, open_group, close_group, letter_a, Member, plain_member}
 use Rattle.paths.specs.Grammar.{inverted_member, Members, one_member, more_members, Rule, alternatives, parts, part, marked, atom, Is, one_alternative}

@@ -22,17 +22,18 @@ use native.Mathlib.Omega.{arith}
 use Rattle.std.proofs.Math.Decide.{dec_lt, dec_le}
 use Rattle.std.proofs.Math.ListN.{length}
 use Rattle.book.specs.Basics.{pick, bit, In, here, there}
-use Rattle.book.specs.SetLaws.{and_both}
-use Rattle.book.specs.ListLaws.{in_left, in_right, in_either, in_none, in_front}
+use Rattle.book.proofs.SetLaws.{and_both}
+use Rattle.book.proofs.ListLaws.{in_left, in_right, in_either, in_none, in_front}
 use Rattle.k2.specs.PairSetLaws.{bit_on, on_bit}
 use Rattle.paths.specs.Expressions.{Letter, Expr}
 use Rattle.paths.specs.Chains.{Graph, Step, crossing, step_words, spell, Chain, stay, cross, Answers, Has, NotAfter, shorter, as_long, First, Reply}
 use Rattle.paths.specs.Chains.{none as no-reply, chain as chain-reply, ChainIs, no_chain, first_chain}
 use Rattle.paths.specs.Relations.{cells}
-use Rattle.paths.specs.ChainLaws.{Inside, crossing_in, crossing_label}
-use Rattle.paths.specs.RelationLaws.{cells_has}
-use Rattle.paths.specs.ChainOrderLaws.{leads, leads_yes, leads_no, before_self, not_after_then, first_only}
-use Rattle.paths.specs.AcceptanceLaws.{accepts, accepts_words, words_accepts}
+use Rattle.paths.specs.Inside.{Inside}
+use Rattle.paths.proofs.ChainLaws.{crossing_in, crossing_label}
+use Rattle.paths.proofs.RelationLaws.{cells_has}
+use Rattle.paths.proofs.ChainOrderLaws.{leads, leads_yes, leads_no, before_self, not_after_then, first_only}
+use Rattle.paths.proofs.AcceptanceLaws.{accepts, accepts_words, words_accepts}
 
 -- ---- each x with a number below n
 abbrev put_front : Bool → {A : Type 0} → A → List A → List A

@@ -13,8 +13,8 @@ use Rattle.paths.specs.Grammar.{Verdict, accepted, long, outside, large}
 use Rattle.paths.specs.Chains.{Graph, asked, Reply, none}
 use Rattle.paths.specs.Relations.{pairs}
 use Rattle.paths.specs.Questions.{Engine, paired, unless, pairs_of, pairs_causes, pairs_answer, ReplyTo, chain_causes, chain_answer}
-use Rattle.paths.specs.ChainLaws.{Inside}
-use Rattle.paths.specs.FirstChainLaws.{reply}
+use Rattle.paths.specs.Inside.{Inside}
+use Rattle.paths.proofs.FirstChainLaws.{reply}
 
 pub same_graph : (b c : Book) → b.n ≡ c.n → ((k : Link) → present b.sheet k ≡ present c.sheet k)
     → ((r : ℕ) → is_withdrawn b.sheet r ≡ is_withdrawn c.sheet r) → asked b ≡ asked c

@@ -22,18 +22,18 @@ use Rattle.book.specs.Causes.{no_expression, too_many_bytes, too_large, short_wo
 use Rattle.book.specs.CauseOrders.{question_order, InOrder, none_left}
 use Rattle.book.specs.CauseOrders.{same_cause, passed_over}
 use Rattle.book.specs.Book.{Book, is_withdrawn, Call, fresh, after}
-use Rattle.book.specs.ListLaws.{in_none, rises_least, rises_same}
-use Rattle.book.specs.SetLaws.{and_both}
+use Rattle.book.proofs.ListLaws.{in_none, rises_least, rises_same}
+use Rattle.book.proofs.SetLaws.{and_both}
 use Rattle.book.specs.Sheets.{Fit}
-use Rattle.book.specs.BookLaws.{fresh_sound, after_sound}
+use Rattle.book.proofs.BookLaws.{fresh_sound, after_sound}
 use Rattle.k2.specs.PairSetLaws.{in_listed, listed_in, listed_rises}
 use Rattle.paths.specs.Expressions.{Expr}
 use Rattle.paths.specs.Grammar.{Verdict, accepted, long, outside, large, verdict_cause}
 use Rattle.paths.specs.Chains.{Graph, asked, Reply, none, ChainIs, no_chain}
 use Rattle.paths.specs.Relations.{cells, PairsAre, pairs}
 use Rattle.paths.specs.Questions.{Engine, paired, unless, chain_work, pairs_of, pairs_causes, pairs_answer, steps, chain_causes}
-use Rattle.paths.specs.ChainLaws.{Inside}
-use Rattle.paths.specs.RelationLaws.{cells_has}
+use Rattle.paths.specs.Inside.{Inside}
+use Rattle.paths.proofs.RelationLaws.{cells_has}
 
 module _ (g : Graph) (I : Inside g) (s : g.n ≤ 1024) (e : Expr) where
   pub pairs_are : PairsAre g e (pairs g e)

@@ -23,7 +23,8 @@ use Rattle.paths.specs.Expressions.{Letter, stands_for, Expr, symbol, group, inv
 use Rattle.paths.specs.Chains.{Graph, crossing, Has}
 use Rattle.paths.specs.Relations.{Rel, link, inside, swapped, left, right, joined, once, again, star_none, star_some, optional_none, optional_once, joins}
 use Rattle.paths.specs.Relations.{crossed_by, zero_steps, cells}
-use Rattle.paths.specs.ChainLaws.{Inside, crossing_in, crossing_label, rel_in_use, rel_has}
+use Rattle.paths.specs.Inside.{Inside}
+use Rattle.paths.proofs.ChainLaws.{crossing_in, crossing_label, rel_in_use, rel_has}
 
 -- ---- one step
 joins_lt : (t p : Bool) → pick t (bit p) 0 < 2

@@ -14,14 +14,15 @@ use Prim.Native.Nat.{ℕ, suc, ◌+◌, ◌*◌, ◌/◌, ◌%◌, ◌≤◌, �
 use Rattle.std.proofs.Math.Decide.{dec_lt}
 use Rattle.book.specs.Basics.{bit, In, here, there, Rises, ended, rises}
 use Rattle.book.specs.Book.{Link, renamed_link}
-use Rattle.book.specs.ListLaws.{rises_least}
+use Rattle.book.proofs.ListLaws.{rises_least}
 use Rattle.k2.specs.PairSets.{pair_word}
 use Rattle.paths.specs.Expressions.{Letter, Expr}
 use Rattle.paths.specs.Chains.{Graph, Step, crossing, step_word, Chain, stay, cross, spell, step_words, Answers, Has, Before, same, smaller, alike}
 use Rattle.paths.specs.Chains.{NotAfter, shorter, as_long, First, Reply, none, chain, ChainIs, no_chain, first_chain}
 use Rattle.paths.specs.Relations.{PairsAre}
-use Rattle.paths.specs.ChainLaws.{Inside, crossing_in}
-use Rattle.paths.specs.ChainOrderLaws.{before_back}
+use Rattle.paths.specs.Inside.{Inside}
+use Rattle.paths.proofs.ChainLaws.{crossing_in}
+use Rattle.paths.proofs.ChainOrderLaws.{before_back}
 use Rattle.paths.specs.Renaming.{renamed_pair, renamed_step, renamed_reply}
 
 pub record Maps (f : ℕ → ℕ) (g h : Graph) : Type 0 where

@@ -7,7 +7,7 @@ use Rattle.std.specs.Prelude.{◌≡◌, refl, List, [], ◌∷◌, Bool, true, 
 use Rattle.std.proofs.Common.{sym, ap, ◌∙◌, eqb-true, eq-eqb, lt-ltb, ltb-true}
 use Rattle.std.proofs.lemmas.Bool.{false≢true}
 use Rattle.book.specs.Basics.{In, here, there, has}
-use Rattle.book.specs.SetLaws.{and_both, or-true, EqualityTest, has_in, in_has}
+use Rattle.book.proofs.SetLaws.{and_both, or-true, EqualityTest, has_in, in_has}
 use Rattle.book.specs.Causes.{labels}
 use Rattle.paths.specs.Expressions.{Letter, none_of, same_sense, same_letter, has_sense, stands_for}
 

@@ -16,9 +16,6 @@ use Rattle.book.specs.Causes.{max_bytes, max_letters, max_depth}
 use Rattle.paths.specs.Expressions.{Expr, letters, depth}
 use Rattle.paths.specs.Grammar.{alternatives, Is, Verdict, accepted, long, outside, large, Judged, over_bytes, no_syntax, over_limits, good}
 use Rattle.paths.specs.Descent.{Parse, got, fault, read_alternatives}
-use Rattle.paths.specs.DescentSoundnessLaws.{All, nothing, gives, By}
-use Rattle.paths.specs.DescentEquationLaws.{alternatives_sound}
-use Rattle.paths.specs.DescentCompletenessLaws.{text_read}
 
 -- of an expression, by its size
 abbrev pub sized : Expr → Verdict

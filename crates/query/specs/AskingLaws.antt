@@ -42,10 +42,10 @@ use Rattle.paths.specs.Expressions.{Expr}
 use Rattle.paths.specs.Grammar.{Verdict, accepted, long, outside, large, verdict_cause}
 use Rattle.paths.specs.Chains.{asked}
 use Rattle.paths.specs.Relations.{cells, pairs}
-use Rattle.paths.specs.PairLaws.{verdict_caused}
+use Rattle.paths.proofs.PairLaws.{verdict_caused}
 use Rattle.paths.specs.Questions.{Outcome, Engine, by_trees, refused, paired, pairs_work, work_for, pairs_of, pairs_causes, pairs_answer}
 use Rattle.paths.specs.Questions.{unless, list_after, count_of, Tells}
-use Rattle.paths.specs.Verdicts.{accepted_same}
+use Rattle.paths.proofs.VerdictLaws.{accepted_same}
 use Rattle.reader.specs.Reads.{read_answer}
 use Rattle.reader.specs.declared.Answer.TheVariants.{Refused as Faulty}
 use Rattle.register.specs.Representation.{Represents}

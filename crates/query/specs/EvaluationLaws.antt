@@ -21,7 +21,7 @@ use Rattle.paths.specs.Grammar.{accepted}
 use Rattle.paths.specs.Verdicts.{verdict}
 use Rattle.paths.specs.Chains.{Graph}
 use Rattle.paths.specs.Relations.{zero_steps, cells}
-use Rattle.paths.specs.RelationLaws.{crossed_same}
+use Rattle.paths.proofs.RelationLaws.{crossed_same}
 use Rattle.reader.specs.declared.items.Item.{Item}
 use Rattle.reader.specs.declared.items.Item.TheVariants.{Letters, Inverse, Star, Plus, Optional, Alternative, Sequence}
 use Rattle.reader.specs.declared.Reading.{Reading}

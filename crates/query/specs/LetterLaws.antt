@@ -13,7 +13,7 @@ use Rattle.std.proofs.Common.{◌∙◌, ⊎_elim, arith, eqb-true, eq-eqb, le-l
 use Prim.Native.Nat.{ℕ, ◌+◌, ◌*◌, ◌/◌, ◌%◌, ◌<◌, ◌≤◌, max}
 use Rattle.std.proofs.Math.Decide.{dec_lt}
 use Rattle.book.specs.Basics.{pick, bit, In, here, there}
-use Rattle.book.specs.ListLaws.{in_none, in_front, in_map}
+use Rattle.book.proofs.ListLaws.{in_none, in_front, in_map}
 use Rattle.book.specs.Book.{Book, present}
 use Rattle.book.specs.Causes.{max_records}
 use Rattle.k2.specs.Bits.{digit}
@@ -22,9 +22,9 @@ use Rattle.k2.specs.PairSetLaws.{set-in, in_set, set_bit, set_past}
 use Rattle.paths.specs.Expressions.{Letter}
 use Rattle.paths.specs.Chains.{Graph, asked}
 use Rattle.paths.specs.Relations.{crossed_by, zero_steps}
-use Rattle.paths.specs.ChainLaws.{Inside}
-use Rattle.paths.specs.RelationLaws.{crossed_is, is_crossed}
-use Rattle.paths.specs.PairLaws.{fit_inside}
+use Rattle.paths.specs.Inside.{Inside}
+use Rattle.paths.proofs.RelationLaws.{crossed_is, is_crossed}
+use Rattle.paths.proofs.PairLaws.{fit_inside}
 use Rattle.reader.specs.Letters.{letters_in}
 use Rattle.register.specs.MarkLaws.{listed_withdrawn}
 use Rattle.register.specs.Questions.{Sized, Listing, MarkList}

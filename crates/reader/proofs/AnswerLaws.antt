@@ -16,7 +16,8 @@ use lib.Seq.{sets, sets-eq, drop-cons}
 use Rattle.book.specs.Causes.{first_number, number, max_bytes, max_letters, max_depth}
 use Rattle.paths.specs.Grammar.{Verdict, accepted, long, outside, large, verdict_cause}
 use Rattle.paths.specs.Descent.{got, alternatives_in, read_alternatives}
-use Rattle.paths.specs.Verdicts.{verdict, verdict_more, verdict_letters, verdict_deep, verdict_accepted}
+use Rattle.paths.specs.Verdicts.{verdict}
+use Rattle.paths.proofs.VerdictLaws.{verdict_more, verdict_letters, verdict_deep, verdict_accepted}
 use Rattle.reader.specs.Code.{code}
 use Rattle.reader.specs.declared.Spot.{Spot}
 use Rattle.reader.specs.declared.Answer.TheVariants.{Accepted, Refused}

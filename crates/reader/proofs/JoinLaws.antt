@@ -21,7 +21,7 @@ use lib.Seq.{sets}
 use borrow.Author.Tests.{eqb-true}
 use Rattle.paths.specs.Expressions.{Expr, letters, depth}
 use Rattle.paths.specs.Descent.{Parse, got, first_byte, rest, then}
-use Rattle.paths.specs.DescentEquationLaws.{alternatives_is, more_alternatives_bar, more_alternatives_end, parts_is, more_parts_slash, more_parts_end}
+use Rattle.paths.proofs.DescentEquationLaws.{alternatives_is, more_alternatives_bar, more_alternatives_end, parts_is, more_parts_slash, more_parts_end}
 use Rattle.reader.specs.Code.{code}
 use Rattle.reader.specs.CodeLaws.{letters_code}
 use Rattle.reader.specs.declared.Spot.{Spot}

@@ -26,7 +26,7 @@ use Rattle.book.specs.Basics.{pick}
 use Rattle.paths.specs.Expressions.{Symbol, Expr, symbol, group, inverse, star, plus, optional, alternative, sequence, letters, depth}
 use Rattle.paths.specs.Grammar.{hat, asterisk, plus_sign, question_mark, open_group, close_group}
 use Rattle.paths.specs.Descent.{Parse, got, fault, first_byte, rest, then, read_mark, read_close, invert_read, read_alternatives, read_part, read_atom}
-use Rattle.paths.specs.DescentEquationLaws.{if_true, if_false, atom_group, part_hat, part_plain, mark_star, mark_plus, mark_optional, mark_none}
+use Rattle.paths.proofs.DescentEquationLaws.{if_true, if_false, atom_group, part_hat, part_plain, mark_star, mark_plus, mark_optional, mark_none}
 use Rattle.reader.specs.Code.{op_inverse, op_star, op_plus, op_optional, letters_number, code}
 use Rattle.reader.specs.CodeLaws.{letters_code}
 use Rattle.reader.specs.declared.symbols.Letters.{Letters}

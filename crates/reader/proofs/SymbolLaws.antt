@@ -23,14 +23,14 @@ use lib.ListN.{length, drop, length-drop}
 use lib.Pow.{pow-lt, pow_pos}
 use borrow.Author.Tests.{eq-eqb, ne_eqb, eqb-true, eqb-false, le-leb, lt-leb, leb-true, lt-ltb, le-ltb, ltb-true}
 use Rattle.book.specs.Basics.{pick, bit, has}
-use Rattle.book.specs.SetLaws.{and_both, or-true}
+use Rattle.book.proofs.SetLaws.{and_both, or-true}
 use Rattle.book.specs.Causes.{labels}
 use Rattle.k2.specs.Bits.{digit}
 use Rattle.k2.specs.DigitLaws.{digit_lt, digit_none, digit_or, digit_not, digit_pow}
 use Rattle.paths.specs.Expressions.{Letter, letter, none_of, same_sense, same_letter, has_sense, stands_for, symbol}
 use Rattle.paths.specs.Grammar.{bar, hat, bang, open_group, close_group, letter_a}
 use Rattle.paths.specs.Descent.{Parse, got, fault, first_byte, rest, is_letter, letter_of, read_member, members_in, got_negated, read_negated, read_atom}
-use Rattle.paths.specs.DescentEquationLaws.{if_true, if_false, atom_letter, atom_negated, atom_fault}
+use Rattle.paths.proofs.DescentEquationLaws.{if_true, if_false, atom_letter, atom_negated, atom_fault}
 use Rattle.reader.specs.declared.symbols.Letters.{Letters}
 use Rattle.reader.specs.declared.symbols.Symbol.{Symbol as Symbol-read}
 use Rattle.reader.specs.declared.symbols.Symbol.TheVariants.{Read, Missing}

@@ -10,7 +10,8 @@ use Rattle.std.proofs.Math.Seq.{take-append_seam}
 use Rattle.book.specs.Causes.{number, first_number}
 use Rattle.paths.specs.Expressions.{Expr}
 use Rattle.paths.specs.Grammar.{Verdict, accepted, long, outside, large, verdict_cause}
-use Rattle.paths.specs.Verdicts.{verdict, accepted_is}
+use Rattle.paths.specs.Verdicts.{verdict}
+use Rattle.paths.proofs.VerdictLaws.{accepted_is}
 use Rattle.reader.specs.Code.{code}
 use Rattle.reader.specs.CodeLaws.{code_short}
 use Rattle.reader.specs.declared.Answer.TheVariants.{Accepted, Refused}

@@ -32,12 +32,12 @@ use Rattle.book.specs.Basics.{pick, In, has, Rises, over}
 use Rattle.book.specs.Causes.{none_in_use, short_list, number, Caused, first_number, max_records}
 use Rattle.book.specs.Book.{Link, Sheet, Book, close, present, is_locked, used, rank, renamed_link, closed_sheet, close_causes, close_answer, closed, no_number}
 use Rattle.book.specs.Book.{new_numbers, close_given, answer, next, given}
-use Rattle.book.specs.ListLaws.{map_in, length-map, in_map, rises_map}
-use Rattle.book.specs.TotalLaws.{tally_map}
-use Rattle.book.specs.SetLaws.{eqb_test, same_link_test, has_map, map_has}
-use Rattle.book.specs.RankLaws.{rank_less, rank_le, rank_same, rank_passed, rank_failed}
-use Rattle.book.specs.CloseLaws.{link_used, closed_fit, closed_locked, closed_total}
-use Rattle.book.specs.GivenLaws.{length-numbers, numbers_same}
+use Rattle.book.proofs.ListLaws.{map_in, length-map, in_map, rises_map}
+use Rattle.book.proofs.TotalLaws.{tally_map}
+use Rattle.book.proofs.SetLaws.{eqb_test, same_link_test, has_map, map_has}
+use Rattle.book.proofs.RankLaws.{rank_less, rank_le, rank_same, rank_passed, rank_failed}
+use Rattle.book.proofs.CloseLaws.{link_used, closed_fit, closed_locked, closed_total}
+use Rattle.book.proofs.GivenLaws.{length-numbers, numbers_same}
 use Rattle.links.specs.Links.{link_word, Linked}
 use Rattle.links.specs.Parts.{link_of, label_unit, word_total}
 use Rattle.links.specs.LinkLaws.{word_link}

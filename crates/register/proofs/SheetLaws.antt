@@ -22,11 +22,11 @@ use Rattle.book.specs.Causes.{Cause, no_record, locked_end, already, missing, fu
 use Rattle.book.specs.Causes.{max_links}
 use Rattle.book.specs.Book.{Link, same_link, Sheet, Edit, add, remove, lock, unlock, withdraw, reinstate, present, is_locked, is_withdrawn, touched, total, causes}
 use Rattle.book.specs.Book.{edit_answer, edited}
-use Rattle.book.specs.SetLaws.{eqb_test, same_link_test, and_both, or_neither, has_in, in_has, has_without, without_self, without_other, length_without, or_else}
-use Rattle.book.specs.SetLaws.{without_absent}
+use Rattle.book.proofs.SetLaws.{eqb_test, same_link_test, and_both, or_neither, has_in, in_has, has_without, without_self, without_other, length_without, or_else}
+use Rattle.book.proofs.SetLaws.{without_absent}
 use Rattle.book.specs.Sheets.{Proper, Fit}
-use Rattle.book.specs.BookLaws.{first-none, first_proper, edited_fit, fit_bare}
-use Rattle.book.specs.TotalLaws.{total-add, total_remove}
+use Rattle.book.proofs.BookLaws.{first-none, first_proper, edited_fit, fit_bare}
+use Rattle.book.proofs.TotalLaws.{total-add, total_remove}
 use Rattle.links.specs.Links.{link_word, Linked}
 use Rattle.links.specs.Parts.{link_of, label_unit}
 use Rattle.links.specs.Ascending.{insert}

@@ -36,7 +36,7 @@ use Rattle.book.specs.Book.{Link, Sheet, Book, Edit, add, remove, lock, unlock, 
 use Rattle.book.specs.Book.{undone, fresh_answer, fresh, answer}
 use Rattle.book.specs.Book.{next, touched}
 use Rattle.book.specs.Sheets.{Proper}
-use Rattle.book.specs.BookLaws.{caused_positive, first_proper}
+use Rattle.book.proofs.BookLaws.{caused_positive, first_proper}
 use Rattle.links.specs.Links.{link_word}
 use Rattle.links.specs.Parts.{link_of}
 use Rattle.links.specs.Ascending.{Seam, stands_at}

@@ -12,7 +12,7 @@ use native.Mathlib.Omega.{arith}
 use lib.ListN.{get_or}
 use Rattle.book.specs.Causes.{bad_label, number, labels}
 use Rattle.book.specs.Book.{Sheet, Book, total}
-use Rattle.book.specs.TotalLaws.{total_told, total_refused}
+use Rattle.book.proofs.TotalLaws.{total_told, total_refused}
 use Rattle.links.specs.Parts.{word_total}
 use Rattle.register.specs.Packed.{Packed, Shows}
 use Rattle.register.specs.Counters.{InRange}

@@ -22,10 +22,10 @@ use borrow.Author.Tests.{eqb-true, eq-eqb}
 use Rattle.book.specs.Basics.{bit, In, here, there, has, without, tally}
 use Rattle.book.specs.Causes.{max_records}
 use Rattle.book.specs.Book.{Link, same_link, Sheet, Book, present, total}
-use Rattle.book.specs.ListLaws.{in_none, in_front}
-use Rattle.book.specs.SetLaws.{eqb_test, same_link_test, and_both, has_in, in_has, has_without, distinct_without}
+use Rattle.book.proofs.ListLaws.{in_none, in_front}
+use Rattle.book.proofs.SetLaws.{eqb_test, same_link_test, and_both, has_in, in_has, has_without, distinct_without}
 use Rattle.book.specs.Sheets.{Distinct}
-use Rattle.book.specs.TotalLaws.{tally_without}
+use Rattle.book.proofs.TotalLaws.{tally_without}
 use Rattle.links.specs.Links.{link_word, Linked}
 use Rattle.links.specs.Parts.{link_of, label_unit, word_total}
 use Rattle.links.specs.Totals.{Lowered, TotalsOf}

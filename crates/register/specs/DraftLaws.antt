@@ -24,7 +24,7 @@ use Rattle.std.proofs.lemmas.List.{length-replicate}
 use Rattle.book.specs.Basics.{pick}
 use Rattle.book.specs.Causes.{unknown_kind, number, Caused}
 use Rattle.book.specs.Book.{Book, add, remove, lock, unlock, withdraw, reinstate, Call, edit, undo, close, answer, next, answers, after}
-use Rattle.book.specs.BookLaws.{refused_same}
+use Rattle.book.proofs.BookLaws.{refused_same}
 use Rattle.register.specs.Representation.{Represents}
 use Rattle.register.specs.Calls.{answer_of, answer_number, call_of, Steps}
 use Rattle.register.specs.History.{Lent, CallsMade, done, more_edit, more_undo, more_close, Entry, is-call, no_call, kind_call, word_call, close_kind}

@@ -19,11 +19,11 @@ use Rattle.std.proofs.Math.Seq.{take-append-add, drop-append-add}
 use Rattle.book.specs.Basics.{pick, over, All, all_none, all_more, tally}
 use Rattle.book.specs.Causes.{bad_size, short_work, max_records}
 use Rattle.book.specs.Book.{Book, Call, edit, undo, close, closed, close_answer, close_given, answer, next, given, fresh, after, givens}
-use Rattle.book.specs.BookLaws.{first-none, next_sound, fresh_sound}
-use Rattle.book.specs.SetLaws.{or_neither}
-use Rattle.book.specs.GivenLaws.{room_same, given_length}
+use Rattle.book.proofs.BookLaws.{first-none, next_sound, fresh_sound}
+use Rattle.book.proofs.SetLaws.{or_neither}
+use Rattle.book.proofs.GivenLaws.{room_same, given_length}
 use Rattle.book.specs.Sheets.{Sound}
-use Rattle.book.specs.ListLaws.{length_over}
+use Rattle.book.proofs.ListLaws.{length_over}
 use Rattle.register.specs.Calls.{answer_of}
 use Rattle.register.specs.History.{Lent, Gives, none_given, more_given, Entry, is-call, no_call, entry_number, entry_next, entry_calls}
 use Rattle.register.specs.Replaying.{room_most, EntrySteps}

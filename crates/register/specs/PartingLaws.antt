@@ -20,10 +20,10 @@ use Rattle.std.proofs.Math.ListN.{length}
 use Rattle.book.specs.Basics.{pick, bit, In, here, there, has, tally, Rises, ended, rises}
 use Rattle.book.specs.Book.{Link, Sheet, present}
 use Rattle.book.specs.Causes.{max_records}
-use Rattle.book.specs.ListLaws.{in_none, in_front, rises_from}
-use Rattle.book.specs.SetLaws.{EqualityTest, same_link_test, has_in, in_has}
+use Rattle.book.proofs.ListLaws.{in_none, in_front, rises_from}
+use Rattle.book.proofs.SetLaws.{EqualityTest, same_link_test, has_in, in_has}
 use Rattle.book.specs.Sheets.{Distinct, Fit}
-use Rattle.book.specs.TotalLaws.{tally_le}
+use Rattle.book.proofs.TotalLaws.{tally_le}
 use Rattle.links.specs.Links.{Linked}
 use Rattle.links.specs.Parts.{link_of}
 use Rattle.links.specs.LinkLaws.{word_link}

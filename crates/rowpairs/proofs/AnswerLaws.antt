@@ -29,7 +29,7 @@ use Rattle.links.specs.Parts.{link_pair}
 use Rattle.grid.specs.Grid.{first}
 use Rattle.query.specs.Asking.{max_pairs}
 use Rattle.query.specs.Evaluation.{Coded}
-use Rattle.query.specs.WorkLaws.{rows_fit}
+use Rattle.query.proofs.WorkLaws.{rows_fit}
 use Rattle.answers.specs.Written.{written, Wrote}
 use Rattle.k2.specs.SizeLaws.{tree_unit_some}
 use Rattle.rowpairs.specs.Labels.{Alone, LetterListed}

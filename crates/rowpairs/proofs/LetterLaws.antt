@@ -20,7 +20,7 @@ use lib.Dec.{eqb}
 use lib.ListN.{take, drop}
 use borrow.Author.Tests.{eq-eqb, ne_eqb}
 use Rattle.book.specs.Basics.{pick, bit, In, here, there}
-use Rattle.book.specs.ListLaws.{in_none, in_map, map_in}
+use Rattle.book.proofs.ListLaws.{in_none, in_map, map_in}
 use Rattle.book.specs.Book.{Book, present}
 use Rattle.k2.specs.Bits.{digit, value}
 use Rattle.k2.specs.BitLaws.{value_digit}
@@ -37,7 +37,7 @@ use Rattle.links.specs.Lookups.{PairsOf, LabelPart}
 use Rattle.grid.specs.Grid.{within, first}
 use Rattle.grid.specs.GridLaws.{within_set}
 use Rattle.query.specs.Evaluation.{Lettered}
-use Rattle.query.specs.LetterLaws.{links_below}
+use Rattle.query.proofs.LetterLaws.{links_below}
 use Rattle.rowpairs.specs.Labels.{every_label, every_if, stepped_by, stepped_below, PutBelow}
 
 -- ---- the members of a part

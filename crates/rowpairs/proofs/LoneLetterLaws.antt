@@ -18,7 +18,7 @@ use lib.ListN.{length, take, drop, get_or, set, drop_of_length-le}
 use lib.Seq.{take_all, drop-cons}
 use borrow.Author.Tests.{eqb-true, eq-eqb}
 use Rattle.book.specs.Basics.{pick, bit, In}
-use Rattle.book.specs.ListLaws.{rises_same}
+use Rattle.book.proofs.ListLaws.{rises_same}
 use Rattle.book.specs.Book.{Book, present}
 use Rattle.k2.specs.Bits.{digit}
 use Rattle.k2.specs.DigitLaws.{digit_pow, digit_none}
@@ -27,15 +27,15 @@ use Rattle.k2.specs.PairSetLaws.{set-in, in_set, in_listed, listed_in, listed_ri
 use Rattle.paths.specs.Expressions.{Letter, Expr}
 use Rattle.paths.specs.Chains.{Graph, asked}
 use Rattle.paths.specs.Relations.{crossed_by, cells, pairs}
-use Rattle.paths.specs.RelationLaws.{crossed_is, is_crossed}
-use Rattle.paths.specs.PairLaws.{fit_inside}
+use Rattle.paths.proofs.RelationLaws.{crossed_is, is_crossed}
+use Rattle.paths.proofs.PairLaws.{fit_inside}
 use Rattle.reader.specs.declared.items.Item.{Item}
 use Rattle.reader.specs.Letters.{letters_in}
 use Rattle.reader.specs.Code.{does, run}
 use Rattle.links.specs.Parts.{link_pair}
 use Rattle.links.specs.Lookups.{LabelPart}
 use Rattle.query.specs.Evaluation.{relations, Coded, Lettered}
-use Rattle.query.specs.EvaluationLaws.{coded_value}
+use Rattle.query.proofs.EvaluationLaws.{coded_value}
 use Rattle.rowpairs.specs.Labels.{Alone}
 use Rattle.rowpairs.proofs.LetterLaws.{below, part_pairs, part_set}
 

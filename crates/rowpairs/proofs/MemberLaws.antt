@@ -10,14 +10,14 @@ use native.Mathlib.Omega.{arith}
 use lib.ListN.{length, take, get_or}
 use lib.Seq.{take-suc}
 use Rattle.book.specs.Basics.{In, here}
-use Rattle.book.specs.ListLaws.{in_left, in_right, in_either, in_none, in_one}
+use Rattle.book.proofs.ListLaws.{in_left, in_right, in_either, in_none, in_one}
 use Rattle.bits.specs.BitSets.{none, put, both}
 use Rattle.bits.specs.BitSetLaws.{put_at, put_off}
 use Rattle.paths.specs.Questions.{row_width}
 use Rattle.grid.specs.Grid.{row_of, first_rows}
 use Rattle.grid.specs.GridLaws.{within_in, row_bit}
 use Rattle.grid.specs.Steps.{Meets}
-use Rattle.query.specs.WorkLaws.{width_wide}
+use Rattle.query.proofs.WorkLaws.{width_wide}
 use Rattle.rowpairs.specs.Evaluation.{relation_in, Members, JoinsSome}
 
 pub members_none : (f : ℕ → ℕ) → f ≡ none → Members [] f

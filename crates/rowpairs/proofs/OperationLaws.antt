@@ -15,7 +15,7 @@ use Rattle.reader.specs.Letters.{letters_in}
 use Rattle.grid.specs.Grid.{within}
 use Rattle.grid.specs.GridLaws.{within_set}
 use Rattle.query.specs.Evaluation.{Lettered}
-use Rattle.query.specs.LetterLaws.{zero_used, used-below}
+use Rattle.query.proofs.LetterLaws.{zero_used, used-below}
 use Rattle.rowpairs.specs.Evaluation.{outcome_of}
 
 -- zero steps have no record past n

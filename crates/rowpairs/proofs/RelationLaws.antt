@@ -6,7 +6,7 @@ use native.Mathlib.Omega.{arith}
 use lib.ListN.{length, drop}
 use Rattle.book.specs.Causes.{short_work, number, max_records}
 use Rattle.book.specs.Book.{Book}
-use Rattle.book.specs.BookLaws.{caused_positive}
+use Rattle.book.proofs.BookLaws.{caused_positive}
 use Rattle.answers.specs.Answers.{answered}
 use Rattle.answers.specs.declared.Counted.TheVariants.{Count, Refused}
 use Rattle.k2.specs.Bits.{bit_at}
@@ -20,7 +20,7 @@ use Rattle.grid.specs.Grid.{first}
 use Rattle.register.specs.Representation.{Represents}
 use Rattle.register.specs.declared.Register.{Register}
 use Rattle.query.specs.Asking.{row_words, relation_answer, RelatesFor}
-use Rattle.query.specs.AskingLaws.{Asked, asked_enough, relation_refused, relation_few, relates_refused, relates_made}
+use Rattle.query.proofs.AskingLaws.{Asked, asked_enough, relation_refused, relation_few, relates_refused, relates_made}
 use Rattle.rowpairs.specs.Evaluation.{relation_in, Relating}
 use Rattle.rowpairs.specs.RelatingLaws.{relating_refused, relating_made}
 use Rattle.rowpairs.specs.declared.Related.{Related}

@@ -27,7 +27,7 @@ use Rattle.reader.specs.Code.{item_of, does, run}
 use Rattle.reader.specs.Running.{operands}
 use Rattle.grid.specs.Grid.{first}
 use Rattle.query.specs.Evaluation.{relations, Ready, Coded, Height}
-use Rattle.query.specs.EvaluationLaws.{coded_value, height_begins, height_ready, height_next}
+use Rattle.query.proofs.EvaluationLaws.{coded_value, height_begins, height_ready, height_next}
 use Rattle.rowpairs.specs.Evaluation.{relation_at, lying, Goes, Reading, one_number, turned_letters, Going, ValueFirst}
 use Rattle.rowpairs.specs.declared.running.Next.{Next}
 

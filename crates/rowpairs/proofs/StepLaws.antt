@@ -15,7 +15,7 @@ use lib.ListN.{length, take, drop, get_or}
 use lib.Seq.{drop_at, drop-drop, length-take-le, drop-length, get_or-take, get_or-drop}
 use borrow.Rule.Slice.PartMut.{put_mid, take_put}
 use Rattle.book.specs.Book.{Book}
-use Rattle.book.specs.ListLaws.{rest_whole, rest_length}
+use Rattle.book.proofs.ListLaws.{rest_whole, rest_length}
 use Rattle.k2.specs.Bits.{digit}
 use Rattle.k2.specs.PairSets.{Cells}
 use Rattle.paths.specs.Chains.{Graph, asked}
@@ -27,7 +27,7 @@ use Rattle.reader.specs.Running.{operands}
 use Rattle.grid.specs.Grid.{Space, row_of, first_rows, first, second}
 use Rattle.grid.specs.GridLaws.{within_same, second_part}
 use Rattle.query.specs.Evaluation.{relations}
-use Rattle.query.specs.WorkLaws.{width_le, width_wide}
+use Rattle.query.proofs.WorkLaws.{width_le, width_wide}
 use Rattle.rowpairs.specs.Evaluation.{Lent, Known, outcome_of, Operates, relation_at, lying, Goes, Held, relation_in}
 
 -- ---- sizes

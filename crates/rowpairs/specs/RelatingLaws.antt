@@ -22,7 +22,7 @@ use Rattle.register.specs.Apart.{apart_word}
 use Rattle.register.specs.PartingLaws.{fit_without, linked_without}
 use Rattle.register.specs.declared.Register.{Register}
 use Rattle.register.specs.declared.Links.{Links}
-use Rattle.query.specs.LetterLaws.{read_known}
+use Rattle.query.proofs.LetterLaws.{read_known}
 use Rattle.rowpairs.specs.declared.Related.{Related}
 use Rattle.rowpairs.specs.Evaluation.{Known, RelatingIf}
 

@@ -18,10 +18,10 @@ use lib.Seq.{get_or-set_same, get_or-set_other}
 use Rattle.k2.specs.Bits.{digit}
 use Rattle.k2.specs.DigitLaws.{digit_none, digit_or}
 use Rattle.automaton.specs.Automata.{On}
-use Rattle.automaton.specs.LevelLaws.{Which, less, same, more, which}
+use Rattle.automaton.proofs.LevelLaws.{Which, less, same, more, which}
 use Rattle.search.specs.Levels.{number_at, Stamped, Committed}
 use Rattle.search.specs.Frontiers.{Listed, Frontier, Zero}
-use Rattle.automaton.specs.LowestLaws.{none_on, some_on, Digit, is_on, is_off, digit_of}
+use Rattle.automaton.proofs.LowestLaws.{none_on, some_on, Digit, is_on, is_off, digit_of}
 use Rattle.search.proofs.FrontierLaws.{listed_some}
 
 -- an empty level, committed by nothing

@@ -22,9 +22,9 @@ use Rattle.k2.specs.BitLaws.{ones-le, ones_most}
 use Rattle.k2.specs.DigitLaws.{digit_none, digit_or}
 use Rattle.k2.specs.WordLaws.{or-none}
 use Rattle.automaton.specs.Automata.{On}
-use Rattle.automaton.specs.LevelLaws.{Which, less, same, more, which}
+use Rattle.automaton.proofs.LevelLaws.{Which, less, same, more, which}
 use Rattle.search.specs.Frontiers.{Added, has_state, Listed, Frontier, Zero}
-use Rattle.automaton.specs.LowestLaws.{some_on, Digit, is_on, is_off, digit_of}
+use Rattle.automaton.proofs.LowestLaws.{some_on, Digit, is_on, is_off, digit_of}
 use Rattle.search.proofs.LevelLaws.{ones_less}
 
 -- ---- states added

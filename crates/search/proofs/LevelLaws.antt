@@ -30,12 +30,12 @@ use Rattle.paths.specs.Chains.{Graph, Step, crossing}
 use Rattle.automaton.specs.Automata.{On, Automaton}
 use Rattle.automaton.specs.Masks.{letter_number}
 use Rattle.automaton.specs.Searches.{Walk, Moves, Reach, Shut, Known, Grown}
-use Rattle.automaton.specs.LevelLaws.{walk_stop, walk_ends, known_grown, known_none, Which, less, same, more, which}
+use Rattle.automaton.proofs.LevelLaws.{walk_stop, walk_ends, known_grown, known_none, Which, less, same, more, which}
 use Rattle.arcs.specs.Arcs.{arc_from, arc_to, arc_letter, letter_of, arc_step}
 use Rattle.arcs.specs.ArcLaws.{number_letter}
 use Rattle.search.specs.Levels.{Setting, number_at, distance, Levelled, Stamped, Committed, Sought, found}
 use Rattle.search.specs.Frontiers.{Zero}
-use Rattle.automaton.specs.LowestLaws.{none_on, Digit, is_on, is_off, digit_of}
+use Rattle.automaton.proofs.LowestLaws.{none_on, Digit, is_on, is_off, digit_of}
 
 -- ---- the number counts where the state was seen
 module _ (w seen : List ℕ) (r q : ℕ) where

@@ -16,9 +16,9 @@ use lib.ListN.{get_or}
 use Rattle.k2.specs.Bits.{digit}
 use Rattle.k2.specs.DigitLaws.{digit_lt, digit_none, digit_and, digit_not}
 use Rattle.automaton.specs.Automata.{On}
-use Rattle.automaton.specs.SetLaws.{on_max, on_min}
-use Rattle.automaton.specs.LevelLaws.{Which, less, same, more, which}
-use Rattle.automaton.specs.LowestLaws.{none_on, some_on}
+use Rattle.automaton.proofs.SetLaws.{on_max, on_min}
+use Rattle.automaton.proofs.LevelLaws.{Which, less, same, more, which}
+use Rattle.automaton.proofs.LowestLaws.{none_on, some_on}
 use Rattle.arcs.specs.Arcs.{arc_from, arc_to, arc_letter}
 use Rattle.arcs.specs.Index.{first_arc, next_arc, Cursor, Indexed}
 use Rattle.arcs.specs.IndexLaws.{before_first, only_arc}

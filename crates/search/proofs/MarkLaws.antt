@@ -24,12 +24,12 @@ use borrow.Author.Tests.{eq-eqb}
 use Rattle.k2.specs.Bits.{digit}
 use Rattle.k2.specs.DigitLaws.{digit_none, digit_and, digit_not, digit_pow, digit_big}
 use Rattle.automaton.specs.Automata.{On}
-use Rattle.automaton.specs.SetLaws.{on_min, on_is}
-use Rattle.automaton.specs.LevelLaws.{Which, less, same, more, which}
+use Rattle.automaton.proofs.SetLaws.{on_min, on_is}
+use Rattle.automaton.proofs.LevelLaws.{Which, less, same, more, which}
 use Rattle.arcs.specs.Arcs.{arc_from, arc_to, arc_letter, arc_step_word}
 use Rattle.search.specs.Levels.{number_at, Stamped}
 use Rattle.search.specs.Steps.{Kept, Serve, Chosen, Better, no_states, not-less, less as smaller}
-use Rattle.automaton.specs.LowestLaws.{none_on, Digit, is_on, is_off, digit_of, some_digit, below_pow, Lowest, gone, Among}
+use Rattle.automaton.proofs.LowestLaws.{none_on, Digit, is_on, is_off, digit_of, some_digit, below_pow, Lowest, gone, Among}
 
 -- ---- a number written
 module _ (w : List ℕ) (r q v : ℕ) where

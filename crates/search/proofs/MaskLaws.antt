@@ -9,9 +9,9 @@ use lib.ListN.{get_or}
 use Rattle.k2.specs.Bits.{digit}
 use Rattle.k2.specs.DigitLaws.{digit_or}
 use Rattle.automaton.specs.Automata.{On}
-use Rattle.automaton.specs.SetLaws.{on_max}
+use Rattle.automaton.proofs.SetLaws.{on_max}
 use Rattle.search.specs.Levels.{Spread}
-use Rattle.automaton.specs.LowestLaws.{none_on, Lowest, gone, Among}
+use Rattle.automaton.proofs.LowestLaws.{none_on, Lowest, gone, Among}
 
 -- ---- rows joined
 pub spread_none : (rows : List ℕ) (x : ℕ) → Spread rows x x 0

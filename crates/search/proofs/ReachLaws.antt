@@ -28,20 +28,21 @@ use Rattle.k2.specs.DigitLaws.{digit_lt, digit_none, digit_and, digit_not}
 use Rattle.k2.specs.BitLaws.{ones_most}
 use Rattle.paths.specs.Expressions.{Expr}
 use Rattle.paths.specs.Chains.{Graph, Step, spell, Has}
-use Rattle.paths.specs.ChainLaws.{Inside, in_use_on}
+use Rattle.paths.specs.Inside.{Inside}
+use Rattle.paths.proofs.ChainLaws.{in_use_on}
 use Rattle.automaton.specs.Automata.{On, Automaton, automaton}
-use Rattle.automaton.specs.AutomatonLaws.{words_run}
-use Rattle.automaton.specs.SetLaws.{on_max, on_min}
+use Rattle.automaton.proofs.AutomatonLaws.{words_run}
+use Rattle.automaton.proofs.SetLaws.{on_max, on_min}
 use Rattle.automaton.specs.Searches.{Walk}
-use Rattle.automaton.specs.WalkLaws.{answers_walk}
-use Rattle.automaton.specs.LevelLaws.{walk_stop, walk_more, walk_ends, walk_less}
+use Rattle.automaton.proofs.WalkLaws.{answers_walk}
+use Rattle.automaton.proofs.LevelLaws.{walk_stop, walk_more, walk_ends, walk_less}
 use Rattle.arcs.specs.Arcs.{arc_from, arc_to, arc_letter}
 use Rattle.arcs.specs.Index.{first_arc, next_arc, Cursor, Indexed}
 use Rattle.arcs.specs.IndexLaws.{before_first, only_arc}
 use Rattle.search.specs.Levels.{Setting, Spread}
 use Rattle.search.specs.Frontiers.{Added, has_state, Listed, Zero}
 use Rattle.search.specs.Reaching.{Came, begins, onward, Due, Expanding, Reached, to_do, Fewer, Ended}
-use Rattle.automaton.specs.LowestLaws.{none_on, some_on, Digit, is_on, is_off, digit_of, some_digit, below_pow}
+use Rattle.automaton.proofs.LowestLaws.{none_on, some_on, Digit, is_on, is_off, digit_of, some_digit, below_pow}
 use Rattle.search.proofs.MarkLaws.{bit_off, bit-at}
 use Rattle.search.proofs.LevelLaws.{ones_less, step_arc, shut, arc_moves}
 

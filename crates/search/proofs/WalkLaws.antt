@@ -20,11 +20,11 @@ use Rattle.k2.specs.DigitLaws.{digit_none}
 use Rattle.paths.specs.Expressions.{Letter}
 use Rattle.paths.specs.Chains.{Graph, Step, step_word, step_words}
 use Rattle.automaton.specs.Automata.{On, is, Automaton}
-use Rattle.automaton.specs.SetLaws.{on_is, is_on}
+use Rattle.automaton.proofs.SetLaws.{on_is, is_on}
 use Rattle.automaton.specs.Masks.{letter_number}
 use Rattle.automaton.specs.Searches.{Walk, Moves, Reach, Known, Best, Picks}
-use Rattle.automaton.specs.LevelLaws.{reach_less, exact}
-use Rattle.automaton.specs.WalkLaws.{best_more, best_none}
+use Rattle.automaton.proofs.LevelLaws.{reach_less, exact}
+use Rattle.automaton.proofs.WalkLaws.{best_more, best_none}
 use Rattle.arcs.specs.Arcs.{arc_to, arc_letter, arc_step_word, letter_of, arc_step}
 use Rattle.arcs.specs.ArcLaws.{number_letter, letter-number}
 use Rattle.search.specs.Levels.{Setting, distance, Spread}

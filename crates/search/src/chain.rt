@@ -2,7 +2,7 @@
 ghost use Rattle.std.specs.Prelude.{◌≡◌, true, length};
 ghost use Rattle.paths.specs.Expressions.{Expr};
 ghost use Rattle.paths.specs.Chains.{Graph};
-ghost use Rattle.paths.specs.ChainLaws.{Inside};
+ghost use Rattle.paths.specs.Inside.{Inside};
 ghost use Rattle.automaton.specs.Automata.{automaton};
 ghost use Rattle.automaton.specs.Masks.{Masked};
 ghost use Rattle.arcs.specs.Arcs.{Spans};

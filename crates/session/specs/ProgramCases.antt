@@ -25,11 +25,12 @@ use Rattle.paths.specs.Chains.{asked, Step, spell, step_words, Reply, none, chai
 use Rattle.paths.specs.Relations.{crossed_by, zero_steps, cells, pairs}
 use Rattle.paths.specs.Questions.{ReplyTo, pairs_of, pairs_causes, pairs_answer, steps, chain_causes, chain_answer}
 use Rattle.paths.specs.Descent.{alternatives_in, read_alternatives}
-use Rattle.paths.specs.Verdicts.{verdict, verdict_right, accepted_same}
-use Rattle.paths.specs.PairLaws.{history_inside, withdrawn_none}
-use Rattle.paths.specs.ChainOrderLaws.{before}
-use Rattle.paths.specs.AcceptanceLaws.{parted, many, accepts}
-use Rattle.paths.specs.FirstChainLaws.{reach, steps_below, before_each, after_each, walks, walks_to, end, best, first_to, chain_to, chain_first}
+use Rattle.paths.specs.Verdicts.{verdict}
+use Rattle.paths.proofs.VerdictLaws.{verdict_right, accepted_same}
+use Rattle.paths.proofs.PairLaws.{history_inside, withdrawn_none}
+use Rattle.paths.proofs.ChainOrderLaws.{before}
+use Rattle.paths.proofs.AcceptanceLaws.{parted, many, accepts}
+use Rattle.paths.proofs.FirstChainLaws.{reach, steps_below, before_each, after_each, walks, walks_to, end, best, first_to, chain_to, chain_first}
 use Rattle.report.specs.Report.{bytes, figures, decimal, pair_line, label_letter, sense_sign, step_line, lines, counted, ok_text, refused_text, none_text, pairs_text}
 use Rattle.report.specs.Report.{chain_text, answer_text, total_text, outcome_text}
 use Rattle.register.specs.History.{kind_call}

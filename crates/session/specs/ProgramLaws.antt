@@ -21,8 +21,8 @@ use Rattle.book.specs.Basics.{pick}
 use Rattle.book.specs.Causes.{Cause, no_record, short_work, short_list, not_open, number, first_number}
 use Rattle.book.specs.Book.{Book, fresh, answer, total, total_number}
 use Rattle.book.specs.Sheets.{Sound}
-use Rattle.book.specs.BookLaws.{first-none, next_sound, fresh_sound}
-use Rattle.book.specs.ListLaws.{length_over}
+use Rattle.book.proofs.BookLaws.{first-none, next_sound, fresh_sound}
+use Rattle.book.proofs.ListLaws.{length_over}
 use Rattle.k2.specs.PairSets.{Cells, pair_word, if_set, row_pairs, rows_pairs, listed}
 use Rattle.k2.specs.Trees.{height, tree_unit}
 use Rattle.k2.specs.HeightLaws.{height_is}
@@ -32,13 +32,14 @@ use Rattle.paths.specs.Chains.{asked, Reply, none, chain, ChainIs, first_chain}
 use Rattle.paths.specs.Relations.{pairs, cells}
 use Rattle.paths.specs.Questions.{paired, replied, unless, work_for, chain_work, pairs_of, pairs_causes, pairs_answer, steps, ReplyTo, chain_causes, chain_answer}
 use Rattle.paths.specs.Questions.{list_after}
-use Rattle.paths.specs.Verdicts.{verdict, verdict_right, accepted_same}
-use Rattle.paths.specs.PairLaws.{fit_inside}
-use Rattle.paths.specs.FirstChainLaws.{reply, length_step_words}
+use Rattle.paths.specs.Verdicts.{verdict}
+use Rattle.paths.proofs.VerdictLaws.{verdict_right, accepted_same}
+use Rattle.paths.proofs.PairLaws.{fit_inside}
+use Rattle.paths.proofs.FirstChainLaws.{reply, length_step_words}
 use Rattle.report.specs.Report.{refused_text, answer_text, total_text, outcome_text}
-use Rattle.query.specs.AskingLaws.{outcome_paired}
-use Rattle.query.specs.WorkLaws.{rows_few}
-use Rattle.automaton.specs.ShortChainLaws.{chains_63}
+use Rattle.query.proofs.AskingLaws.{outcome_paired}
+use Rattle.query.proofs.WorkLaws.{rows_few}
+use Rattle.automaton.proofs.ShortChainLaws.{chains_63}
 use Rattle.session.specs.Program.{program_records, program_words, Frame, asks, faulty, opens, call, pairs as pairs-asked, chain as chain-asked, totalling}
 use Rattle.session.specs.Program.{Session, unopened, opened, open_answer, row_records, engine_for, next_session, Right, printing}
 use Rattle.session.specs.TurnLaws.{open_none, open_many, open_fine, next_size}

@@ -13,8 +13,8 @@ use Rattle.book.specs.Book.{Book}
 use Rattle.paths.specs.Grammar.{Verdict, accepted, long, outside, large, Judged, verdict_cause}
 use Rattle.paths.specs.Chains.{asked, Reply}
 use Rattle.paths.specs.Questions.{Outcome, unless, replied, ReplyTo, pairs_answer, chain_causes, chain_answer, list_after}
-use Rattle.paths.specs.Verdicts.{verdict_only}
-use Rattle.paths.specs.FirstChainLaws.{reply_only}
+use Rattle.paths.proofs.VerdictLaws.{verdict_only}
+use Rattle.paths.proofs.FirstChainLaws.{reply_only}
 use Rattle.report.specs.Report.{outcome_text}
 use Rattle.session.specs.Program.{following, whole_front, Frame, asks, faulty, opens, call, pairs, chain, totalling, Session, unopened, opened}
 use Rattle.session.specs.Program.{next_session, engine_for, Right, printing, frame_at, Run, ended, broken, framed}

@@ -24,13 +24,14 @@ use Rattle.std.proofs.Math.Path.{refl, ap}
 use Rattle.std.proofs.Common.{sym, subst, ◌∙◌, arith, length-drop, take_all, lt-ltb, le-ltb, leb-true}
 use Rattle.book.specs.Basics.{pick}
 use Rattle.book.specs.Causes.{Cause, bad_size, broken_frame, not_open, number, first_number, max_records}
-use Rattle.book.specs.RankLaws.{rank_le}
+use Rattle.book.proofs.RankLaws.{rank_le}
 use Rattle.book.specs.Book.{Book, Sheet, Call, edit, undo, close, turned, undone, used, closed, edit_answer, edited, close_answer, answer, next, fresh_answer}
 use Rattle.book.specs.Book.{fresh, total, total_number}
 use Rattle.paths.specs.Grammar.{Verdict}
 use Rattle.paths.specs.Chains.{asked, Reply}
 use Rattle.paths.specs.Questions.{Outcome, ReplyTo, pairs_answer, chain_answer, list_after}
-use Rattle.paths.specs.Verdicts.{verdict, verdict_only}
+use Rattle.paths.specs.Verdicts.{verdict}
+use Rattle.paths.proofs.VerdictLaws.{verdict_only}
 use Rattle.register.specs.declared.Outcome.{Outcome as Told}
 use Rattle.register.specs.Representation.{Represents}
 use Rattle.register.specs.Calls.{answer_number, Steps}

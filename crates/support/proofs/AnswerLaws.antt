@@ -27,7 +27,7 @@ use borrow.Author.Tests.{lt-ltb, le-ltb, le-leb, lt-leb}
 use Rattle.book.specs.Basics.{pick}
 use Rattle.book.specs.Causes.{Cause, no_record, unordered_anchors, short_work, short_list, number, Caused, first_number, max_records}
 use Rattle.book.specs.Book.{Link, Book, present, is_withdrawn}
-use Rattle.book.specs.BookLaws.{caused_positive}
+use Rattle.book.proofs.BookLaws.{caused_positive}
 use Rattle.k2.specs.PairSets.{Cells}
 use Rattle.k2.specs.Trees.{tree_unit}
 use Rattle.k2.specs.SizeLaws.{tree_unit_some}
@@ -46,11 +46,12 @@ use Rattle.register.specs.Parting.{touches, without_links, without_record}
 use Rattle.register.specs.PartingLaws.{present_without}
 use Rattle.register.specs.declared.Register.{Register}
 use Rattle.query.specs.Asking.{Asks}
-use Rattle.query.specs.AskingLaws.{handed_tells, whole_contained}
+use Rattle.query.proofs.AskingLaws.{handed_tells, whole_contained}
 use Rattle.support.specs.declared.Marks.{Marks}
 use Rattle.support.specs.Support.{without, some, chosen, reaches, falls, fallen, orderly, fallen_of, support_causes}
 use Rattle.support.specs.Support.{support_outcome}
-use Rattle.support.specs.SupportLaws.{support_work, chosen_same}
+use Rattle.support.specs.SupportWork.{support_work}
+use Rattle.support.proofs.SupportLaws.{chosen_same}
 use Rattle.rowpairs.specs.Evaluation.{relation_in, RelatingIf}
 use Rattle.rowpairs.specs.RelatingLaws.{relating_refused, relating_made}
 use Rattle.rowpairs.specs.declared.Related.{Related}

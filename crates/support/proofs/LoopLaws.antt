@@ -14,7 +14,7 @@ use Rattle.book.specs.Basics.{pick, In}
 use Rattle.k2.specs.PairSets.{Cells}
 use Rattle.rowpairs.specs.Evaluation.{JoinsSome}
 use Rattle.support.specs.Support.{some, chosen, reaches, orderly}
-use Rattle.support.specs.SupportLaws.{some_in, in_some}
+use Rattle.support.proofs.SupportLaws.{some_in, in_some}
 
 -- ---- some member
 module _ (t : ℕ → Bool) (l : List ℕ) (i : ℕ) where

@@ -20,7 +20,7 @@ use Rattle.answers.specs.Answers.{counted, Contained}
 use Rattle.answers.specs.declared.Counted.{Counted}
 use Rattle.paths.specs.Questions.{by_trees, pairs_work, pairs_causes, Tells}
 use Rattle.support.specs.Support.{reaches, support_outcome, some, orderly}
-use Rattle.support.specs.SupportLaws.{support_work}
+use Rattle.support.specs.SupportWork.{support_work}
 use Rattle.support.specs.declared.Marks.{Marks}
 
 unfoldable pub lost : List Bool → List Bool → ℕ → ℕ → Bool

@@ -25,15 +25,15 @@ use Rattle.book.specs.Basics.{pick, In, here, there, Rises, ended, rises}
 use Rattle.book.specs.Causes.{max_records}
 use Rattle.book.specs.CauseOrders.{support_order, InOrder, same_cause}
 use Rattle.book.specs.Book.{Link, Book, Call, fresh, after}
-use Rattle.book.specs.ListLaws.{in_left, in_right, in_either, in_none, in_one, rises_same}
-use Rattle.book.specs.SetLaws.{and_both, or-true}
+use Rattle.book.proofs.ListLaws.{in_left, in_right, in_either, in_none, in_one, rises_same}
+use Rattle.book.proofs.SetLaws.{and_both, or-true}
 use Rattle.paths.specs.Expressions.{Expr}
 use Rattle.paths.specs.Grammar.{Verdict}
 use Rattle.paths.specs.Chains.{Graph, asked}
 use Rattle.paths.specs.Relations.{cells}
-use Rattle.paths.specs.ChainLaws.{Inside}
-use Rattle.paths.specs.RelationLaws.{cells_is}
-use Rattle.paths.specs.PairLaws.{history_inside, text_in_order}
+use Rattle.paths.specs.Inside.{Inside}
+use Rattle.paths.proofs.RelationLaws.{cells_is}
+use Rattle.paths.proofs.PairLaws.{history_inside, text_in_order}
 use Rattle.paths.specs.Questions.{pairs_work, chain_work}
 use Rattle.register.specs.Parting.{touches}
 use Rattle.support.specs.Support.{without, Held, Falls, FallenAre, some, chosen, reaches, falls, fallen, orderly, fallen_of}

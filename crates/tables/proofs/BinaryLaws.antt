@@ -21,7 +21,7 @@ use Rattle.k2.specs.Bits.{digit}
 use Rattle.k2.specs.DigitLaws.{digit_lt, digit_zero, digit_none, digit_or, digit_and}
 use Rattle.paths.specs.Expressions.{Letter}
 use Rattle.automaton.specs.Automata.{On, Fragment, either, followed}
-use Rattle.automaton.specs.SetLaws.{on_max}
+use Rattle.automaton.proofs.SetLaws.{on_max}
 use Rattle.automaton.specs.Traces.{Between, Within}
 use Rattle.automaton.specs.Masks.{letter_number}
 use Rattle.tables.specs.Rows.{Joined}

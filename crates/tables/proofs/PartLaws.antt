@@ -17,7 +17,7 @@ use Rattle.k2.specs.Bits.{digit}
 use Rattle.reader.specs.Letters.{letters_in}
 use Rattle.automaton.specs.Automata.{On, single, reversed, repeated, optional, either, followed}
 use Rattle.automaton.specs.Traces.{Between, Within}
-use Rattle.automaton.specs.TraceLaws.{within_single, within_repeated, within_optional, within_reversed, within_either, within_followed}
+use Rattle.automaton.proofs.TraceLaws.{within_single, within_repeated, within_optional, within_reversed, within_either, within_followed}
 use Rattle.automaton.specs.Masks.{letter_number}
 use Rattle.tables.specs.Rows.{Joined}
 use Rattle.tables.specs.Builds.{Build, Part, parts, Fit, Item, Items, none, item}

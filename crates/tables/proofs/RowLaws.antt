@@ -30,8 +30,8 @@ use borrow.Author.Tests.{eq-eqb, ne_eqb}
 use Rattle.k2.specs.Bits.{digit}
 use Rattle.k2.specs.DigitLaws.{digit_lt, digit_none, digit_or, digit_and, digit_not, digit_big}
 use Rattle.automaton.specs.Automata.{On, is}
-use Rattle.automaton.specs.LevelLaws.{Which, less, same, more, which}
-use Rattle.automaton.specs.LowestLaws.{Lowest, left_of, Among}
+use Rattle.automaton.proofs.LevelLaws.{Which, less, same, more, which}
+use Rattle.automaton.proofs.LowestLaws.{Lowest, left_of, Among}
 use Rattle.tables.specs.Rows.{Joined, sensed, Mixed, inverse_number, Turned}
 
 -- ---- what is done

@@ -19,7 +19,7 @@ use Rattle.k2.specs.PairSetLaws.{bit_small}
 use Rattle.paths.specs.Expressions.{Letter}
 use Rattle.reader.specs.Letters.{letters_in}
 use Rattle.automaton.specs.Automata.{is, single}
-use Rattle.automaton.specs.SetLaws.{on_is}
+use Rattle.automaton.proofs.SetLaws.{on_is}
 use Rattle.automaton.specs.Traces.{Between}
 use Rattle.automaton.specs.Masks.{letter_number}
 use Rattle.tables.specs.Rows.{Joined, letter_digit}

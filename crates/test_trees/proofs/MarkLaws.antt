@@ -6,7 +6,7 @@ use native.Mathlib.Decide.{dec_lt, ℕ_discrete}
 use native.Mathlib.Omega.{arith}
 use lib.ListN.{length, take}
 use borrow.Author.Tests.{lt-ltb, le-ltb}
-use Rattle.book.specs.ListLaws.{in_none}
+use Rattle.book.proofs.ListLaws.{in_none}
 use Rattle.k2.specs.Bits.{bit_at}
 use Rattle.k2.specs.PairSets.{Cells, IsSet, union, diagonal}
 use Rattle.k2.specs.Trees.{tree_words}

@@ -20,8 +20,8 @@ use Rattle.book.specs.Basics.{pick, In, here, there}
 use Rattle.book.specs.Causes.{Cause, bad_size, no_record, bad_tree, short_work, short_list, number, first_number}
 use Rattle.book.specs.CauseOrders.{tree_order, InOrder, none_left, same_cause}
 use Rattle.book.specs.Causes.{max_records}
-use Rattle.book.specs.ListLaws.{in_none}
-use Rattle.book.specs.SetLaws.{and_both, or_neither}
+use Rattle.book.proofs.ListLaws.{in_none}
+use Rattle.book.proofs.SetLaws.{and_both, or_neither}
 use Rattle.k2.specs.PairSets.{PairsBelow}
 use Rattle.k2.specs.Trees.{tree_unit, WellFormed}
 use Rattle.k2.specs.TreeLaws.{tree_none}

@@ -7,7 +7,7 @@ use Rattle.std.specs.Prelude.{◌≡◌, refl, true, List, [], ◌++◌, ℕ, �
 use Rattle.std.proofs.Common.{sym, ap, subst, ◌∙◌, arith, take_all, take_at, le-ltb}
 use Rattle.book.specs.Basics.{In}
 use Rattle.book.specs.Causes.{first_number, max_records}
-use Rattle.book.specs.ListLaws.{in_none}
+use Rattle.book.proofs.ListLaws.{in_none}
 use Rattle.k2.specs.PairSets.{Cells, IsSet, listed, set_of, pair_word, PairsBelow}
 use Rattle.k2.specs.PairSetLaws.{set_of_set, set_of_listed, set-in, in_set, in_listed, listed_in, listed_rises, listed_below}
 use Rattle.k2.specs.Trees.{tree_words, tree_unit, WellFormed}

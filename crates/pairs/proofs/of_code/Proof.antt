@@ -11,8 +11,8 @@ use Rattle.paths.specs.Questions.{by_trees}
 use Rattle.register.specs.Representation.{Represents}
 use Rattle.rows.specs.RowSets.{pairs_in}
 use Rattle.query.specs.Evaluation.{Lettered}
-use Rattle.query.specs.AskingLaws.{asks_short, asks_pairs}
-use Rattle.query.specs.LetterLaws.{read_lettered}
+use Rattle.query.proofs.AskingLaws.{asks_short, asks_pairs}
+use Rattle.query.proofs.LetterLaws.{read_lettered}
 use Rattle.pairs.proofs.AnswerLaws.{pairs_few, pairs_rows}
 use borrow.Author.Rules.{rules}
 use Rattle.pairs.proofs.of_code.Statement.{statement}

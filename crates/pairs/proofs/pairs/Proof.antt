@@ -5,8 +5,8 @@ use lib.ListN.{length}
 use Rattle.paths.specs.Grammar.{Verdict}
 use Rattle.paths.specs.Questions.{by_trees}
 use Rattle.query.specs.Asking.{AsksFor}
-use Rattle.query.specs.AskingLaws.{asks_faulty}
-use Rattle.query.specs.EvaluationLaws.{read_coded}
+use Rattle.query.proofs.AskingLaws.{asks_faulty}
+use Rattle.query.proofs.EvaluationLaws.{read_coded}
 use borrow.Author.Rules.{rules}
 use Rattle.pairs.proofs.pairs.Statement.{statement}
 use Rattle.pairs.proofs.pairs.Tie as tie

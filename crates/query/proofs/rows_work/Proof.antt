@@ -4,7 +4,7 @@ use Prim.Native.Nat.{ℕ, ◌*◌}
 use native.Mathlib.Omega.{arith}
 use borrow.Author.Rules.{rules}
 use Rattle.paths.specs.Questions.{row_width}
-use Rattle.query.specs.WorkLaws.{unit_le}
+use Rattle.query.proofs.WorkLaws.{unit_le}
 use Rattle.query.proofs.rows_work.Statement.{statement}
 use Rattle.query.proofs.rows_work.Tie as tie
 

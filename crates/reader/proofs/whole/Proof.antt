@@ -1,6 +1,6 @@
 -- `reader::whole` meets its contract: each return by the verdict's law for it. Assumes nothing.
 use borrow.Author.Rules.{rules}
-use Rattle.paths.specs.Verdicts.{verdict_long, verdict_none}
+use Rattle.paths.proofs.VerdictLaws.{verdict_long, verdict_none}
 use Rattle.reader.proofs.StepLaws.{gave, missed}
 use Rattle.reader.proofs.AnswerLaws.{refuses_long, refuses_outside, refuses_large, more_bytes, many_letters, too_deep, accepts}
 use Rattle.reader.proofs.whole.Statement.{statement}

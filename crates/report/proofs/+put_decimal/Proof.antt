@@ -8,7 +8,7 @@ use borrow.Author.Rules.{rules}
 use borrow.Fn.Kinds.{In}
 use borrow.Fn.PlainCycle.{Measures, is, falls, and}
 use Rattle.report.specs.Report.{decimal}
-use Rattle.report.specs.ReportLaws.{decimal_small, decimal_more, length_decimal_small, length_decimal_more}
+use Rattle.report.proofs.ReportLaws.{decimal_small, decimal_more, length_decimal_small, length_decimal_more}
 use Rattle.answers.specs.WrittenLaws.{wrote_then}
 use Rattle.report.proofs.put_decimal.Reads as put-decimal
 use Rattle.report.proofs.put_decimal.Kinds as put-decimal-kinds

@@ -2,7 +2,7 @@
 use mathlib.Core.Path.{sym}
 use borrow.Author.Rules.{rules}
 use Rattle.report.specs.Report.{answer_text}
-use Rattle.report.specs.ReportLaws.{refused-text}
+use Rattle.report.proofs.ReportLaws.{refused-text}
 use Rattle.answers.specs.WrittenLaws.{wrote_as}
 use Rattle.report.proofs.put_answer.Statement.{statement}
 use Rattle.report.proofs.put_answer.Tie as tie

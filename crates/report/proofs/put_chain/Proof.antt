@@ -5,7 +5,7 @@ use Prim.Native.Nat.{◌-◌}
 use native.Mathlib.Omega.{arith}
 use lib.ListN.{length}
 use Rattle.report.specs.Report.{bytes, step_line, chain_text}
-use Rattle.report.specs.ReportLaws.{Lined, lined_none, lined_more, lined_all, length_counted_most, length_step_line}
+use Rattle.report.proofs.ReportLaws.{Lined, lined_none, lined_more, lined_all, length_counted_most, length_step_line}
 use Rattle.answers.specs.WrittenLaws.{wrote_then}
 use Rattle.report.proofs.put_chain.Statement.{statement}
 use Rattle.report.proofs.put_chain.Tie as tie

@@ -5,7 +5,7 @@ use native.Mathlib.Omega.{arith}
 use borrow.Author.Rules.{rules}
 use lib.ListN.{length}
 use Rattle.report.specs.Report.{decimal, counted}
-use Rattle.report.specs.ReportLaws.{length_counted}
+use Rattle.report.proofs.ReportLaws.{length_counted}
 use Rattle.answers.specs.WrittenLaws.{wrote_then}
 use Rattle.report.proofs.put_counted.Statement.{statement}
 use Rattle.report.proofs.put_counted.Tie as tie

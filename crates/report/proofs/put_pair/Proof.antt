@@ -6,7 +6,7 @@ use native.Mathlib.Omega.{arith}
 use borrow.Author.Rules.{rules}
 use lib.ListN.{length}
 use Rattle.report.specs.Report.{space}
-use Rattle.report.specs.ReportLaws.{length_decimal, length_counted, pair-line}
+use Rattle.report.proofs.ReportLaws.{length_decimal, length_counted, pair-line}
 use Rattle.answers.specs.WrittenLaws.{wrote_as, wrote_then}
 use Rattle.report.proofs.put_pair.Statement.{statement}
 use Rattle.report.proofs.put_pair.Tie as tie

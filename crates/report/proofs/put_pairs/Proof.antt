@@ -5,7 +5,7 @@ use Prim.Native.Nat.{◌-◌}
 use native.Mathlib.Omega.{arith}
 use lib.ListN.{length}
 use Rattle.report.specs.Report.{bytes, pair_line, pairs_text}
-use Rattle.report.specs.ReportLaws.{Lined, lined_none, lined_more, lined_all, length_counted_most, length_pair_line}
+use Rattle.report.proofs.ReportLaws.{Lined, lined_none, lined_more, lined_all, length_counted_most, length_pair_line}
 use Rattle.answers.specs.WrittenLaws.{wrote_then}
 use Rattle.report.proofs.put_pairs.Statement.{statement}
 use Rattle.report.proofs.put_pairs.Tie as tie

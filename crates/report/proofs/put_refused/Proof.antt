@@ -2,7 +2,7 @@
 use native.Mathlib.Omega.{arith}
 use borrow.Author.Rules.{rules}
 use Rattle.report.specs.Report.{bytes, refused_text}
-use Rattle.report.specs.ReportLaws.{length_counted_most}
+use Rattle.report.proofs.ReportLaws.{length_counted_most}
 use Rattle.report.proofs.put_refused.Statement.{statement}
 use Rattle.report.proofs.put_refused.Tie as tie
 

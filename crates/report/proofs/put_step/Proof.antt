@@ -4,7 +4,7 @@ use Prim.Native.Nat.{◌%◌}
 use native.Mathlib.Omega.{arith}
 use borrow.Author.Rules.{rules}
 use Rattle.report.specs.Report.{space, counted, step_line}
-use Rattle.report.specs.ReportLaws.{length_decimal, length_counted}
+use Rattle.report.proofs.ReportLaws.{length_decimal, length_counted}
 use Rattle.report.proofs.put_step.Statement.{statement}
 use Rattle.report.proofs.put_step.Tie as tie
 

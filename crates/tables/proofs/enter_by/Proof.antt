@@ -6,7 +6,7 @@ use native.Mathlib.Omega.{arith}
 use borrow.Author.Rules.{rules}
 use lib.Bits.{bit_and}
 use lib.Count.{count_trailing_zeros}
-use Rattle.automaton.specs.LowestLaws.{Lowest, lowest}
+use Rattle.automaton.proofs.LowestLaws.{Lowest, lowest}
 use Rattle.tables.proofs.RowLaws.{Entering, entering_none, entering_more, entering_all, entering_lt}
 use Rattle.tables.proofs.enter_by.Statement.{statement}
 use Rattle.tables.proofs.enter_by.Tie as tie

@@ -6,7 +6,7 @@ use native.Mathlib.Omega.{arith}
 use borrow.Author.Rules.{rules}
 use lib.Bits.{bit_and}
 use lib.Count.{count_trailing_zeros}
-use Rattle.automaton.specs.LowestLaws.{Lowest, lowest}
+use Rattle.automaton.proofs.LowestLaws.{Lowest, lowest}
 use Rattle.tables.proofs.RowLaws.{Exchanging, exchanging_none, exchanging_more, exchanging_all}
 use Rattle.tables.proofs.exchange.Statement.{statement}
 use Rattle.tables.proofs.exchange.Tie as tie

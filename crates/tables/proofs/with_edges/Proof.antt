@@ -6,7 +6,7 @@ use native.Mathlib.Omega.{arith}
 use borrow.Author.Rules.{rules}
 use lib.Bits.{bit_and}
 use lib.Count.{count_trailing_zeros}
-use Rattle.automaton.specs.LowestLaws.{Lowest, lowest}
+use Rattle.automaton.proofs.LowestLaws.{Lowest, lowest}
 use Rattle.tables.proofs.RowLaws.{Joining, joining_none, joining_more, joining_all}
 use Rattle.tables.proofs.with_edges.Statement.{statement}
 use Rattle.tables.proofs.with_edges.Tie as tie

@@ -2,7 +2,7 @@
 use mathlib.Core.Path.{refl}
 use Rattle.book.specs.Causes.{number}
 use Rattle.register.specs.EntryLaws.{entry_call, entry-none}
-use Rattle.host.specs.PreviewLaws.{previewed_call, previewed_none}
+use Rattle.host.proofs.PreviewLaws.{previewed_call, previewed_none}
 use borrow.Author.Rules.{rules}
 use Rattle.host.proofs.previews.dating_preview.Statement.{statement}
 use Rattle.host.proofs.previews.dating_preview.Tie as tie

@@ -1,7 +1,7 @@
 -- `lines::words::rest` meets its contract: it cuts off the word, and skips. Assumes nothing.
 use mathlib.Core.Path.{ap, ◌∙◌}
 use native.Mathlib.Omega.{arith}
-use Rattle.book.specs.ListLaws.{rest_whole}
+use Rattle.book.proofs.ListLaws.{rest_whole}
 use Rattle.lines.specs.Typed.{skip, rest}
 use Rattle.lines.specs.TypedLaws.{word_short}
 use borrow.Author.Rules.{rules}

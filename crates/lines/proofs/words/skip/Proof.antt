@@ -5,7 +5,7 @@ use mathlib.Core.Bool.{true, false}
 use native.Mathlib.Omega.{arith}
 use lib.ListN.{length, get_or, length-drop}
 use borrow.Author.Tests.{not-true, not-false}
-use Rattle.book.specs.ListLaws.{rest_whole}
+use Rattle.book.proofs.ListLaws.{rest_whole}
 use Rattle.lines.specs.Typed.{blank, skip}
 use Rattle.lines.specs.TypedLaws.{skip_on, skip_at, skip_none}
 use borrow.Author.Rules.{rules}

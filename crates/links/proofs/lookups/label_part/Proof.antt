@@ -5,7 +5,7 @@ use mathlib.Core.Path.{◌≡◌, ap, sym}
 use native.Mathlib.Omega.{arith}
 use lib.ListN.{length, take, drop, length-drop}
 use lib.Seq.{length-take-le}
-use Rattle.book.specs.ListLaws.{rest_whole}
+use Rattle.book.proofs.ListLaws.{rest_whole}
 use Rattle.links.proofs.LookupLaws.{label-part}
 use borrow.Author.Rules.{rules}
 use Rattle.links.proofs.lookups.label_part.Statement.{statement}

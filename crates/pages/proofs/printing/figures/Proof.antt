@@ -5,7 +5,7 @@ use Prim.Native.Nat.{◌+◌}
 use native.Mathlib.Omega.{arith}
 use lib.ListN.{length}
 use Rattle.report.specs.Report.{decimal}
-use Rattle.report.specs.ReportLaws.{length_decimal, length_decimal_small, length_decimal_more}
+use Rattle.report.proofs.ReportLaws.{length_decimal, length_decimal_small, length_decimal_more}
 use Rattle.pages.proofs.printing.figures.Statement.{statement}
 use Rattle.pages.proofs.printing.figures.Tie as tie
 

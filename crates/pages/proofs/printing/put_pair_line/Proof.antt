@@ -6,7 +6,7 @@ use Prim.Native.Nat.{ℕ, ◌+◌, ◌-◌, ◌*◌, ◌≤◌}
 use native.Mathlib.Omega.{arith}
 use lib.ListN.{length, take, get_or, length-replicate}
 use Rattle.report.specs.Report.{space, lines}
-use Rattle.report.specs.ReportLaws.{wrote_line}
+use Rattle.report.proofs.ReportLaws.{wrote_line}
 use Rattle.answers.specs.Written.{Wrote}
 use Rattle.answers.specs.WrittenLaws.{wrote_none}
 use Rattle.pages.specs.Pages.{pair_cell}

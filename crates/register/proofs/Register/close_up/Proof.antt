@@ -7,7 +7,7 @@ use borrow.Author.Rules.{rules}
 use lib.ListN.{length, get_or}
 use Rattle.book.specs.Causes.{none_in_use, short_list, number}
 use Rattle.book.specs.Book.{rank}
-use Rattle.book.specs.RankLaws.{rank_le}
+use Rattle.book.proofs.RankLaws.{rank_le}
 use Rattle.register.specs.Counters.{InRange}
 use Rattle.register.specs.Closing.{in_use, Small}
 use Rattle.register.proofs.StepLaws.{outside, inside}

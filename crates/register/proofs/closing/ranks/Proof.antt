@@ -5,7 +5,7 @@ use Prim.Native.Nat.{ℕ, suc, ◌-◌, ◌≤◌}
 use native.Mathlib.Omega.{arith}
 use lib.ListN.{length, length-set, replicate}
 use Rattle.book.specs.Book.{rank}
-use Rattle.book.specs.RankLaws.{rank_le}
+use Rattle.book.proofs.RankLaws.{rank_le}
 use Rattle.register.specs.Closing.{in_use, new_of}
 use Rattle.register.proofs.ClosingLaws.{ranked_more, rank_in_use, rank_withdrawn}
 use Rattle.register.proofs.closing.ranks.Statement.{statement}

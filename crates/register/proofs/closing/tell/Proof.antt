@@ -10,7 +10,7 @@ use lib.ListN.{length, drop, get_or, length-set}
 use borrow.Author.Tests.{eq-eqb, ne_eqb}
 use Rattle.book.specs.Basics.{pick}
 use Rattle.book.specs.Book.{rank, no_number, new_numbers}
-use Rattle.book.specs.RankLaws.{rank_le}
+use Rattle.book.proofs.RankLaws.{rank_le}
 use Rattle.register.specs.Marks.{withdrawn_mark}
 use Rattle.register.specs.Closing.{in_use}
 use Rattle.register.proofs.ClosingLaws.{told_more, told_all}

@@ -11,7 +11,7 @@ use lib.Seq.{length-take-le}
 use borrow.Author.Tests.{le-leb, lt-leb, not-false}
 use Rattle.book.specs.Causes.{already, full, missing, number, first_number, max_links}
 use Rattle.book.specs.Book.{Link, Book, add, remove}
-use Rattle.book.specs.BookLaws.{first_caused}
+use Rattle.book.proofs.BookLaws.{first_caused}
 use Rattle.register.specs.Packed.{held_word}
 use Rattle.register.specs.Representation.{packed_of, Represents}
 use Rattle.register.specs.Inner.{link_causes, register_of, relinks}

@@ -7,7 +7,7 @@ use borrow.Author.Rules.{rules}
 use lib.ListN.{length, take}
 use lib.Seq.{length-take-le}
 use borrow.Author.Tests.{not-true, not-false}
-use Rattle.book.specs.SetLaws.{eqb_test, without_absent}
+use Rattle.book.proofs.SetLaws.{eqb_test, without_absent}
 use Rattle.links.specs.AscendingLaws.{seam_has, length-insert}
 use Rattle.register.specs.Packed.{Packed, take_back_kind}
 use Rattle.register.proofs.StepLaws.{back_rest, back_marks, taken_changed}

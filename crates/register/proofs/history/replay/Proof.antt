@@ -14,7 +14,7 @@ use Rattle.book.specs.Basics.{tally}
 use Rattle.book.specs.Causes.{max_records}
 use Rattle.book.specs.Book.{fresh_answer, fresh, after, givens}
 use Rattle.book.specs.Sheets.{Sound}
-use Rattle.book.specs.ListLaws.{rest_whole}
+use Rattle.book.proofs.ListLaws.{rest_whole}
 use Rattle.register.specs.Representation.{Represents}
 use Rattle.register.specs.Calls.{answer_of, answer_number}
 use Rattle.register.specs.History.{Lent, word_call, entry_number, word_answers, entry_calls, calls_of, closings, laid}

@@ -4,8 +4,8 @@ use mathlib.Core.Bool.{false≢true}
 use native.Mathlib.Omega.{arith}
 use Rattle.book.specs.Basics.{has, tally, ended}
 use Rattle.book.specs.Book.{fresh, total}
-use Rattle.book.specs.BookLaws.{fresh_sound}
-use Rattle.book.specs.ListLaws.{in_none}
+use Rattle.book.proofs.BookLaws.{fresh_sound}
+use Rattle.book.proofs.ListLaws.{in_none}
 use Rattle.links.specs.Parts.{word_total}
 use Rattle.register.specs.Packed.{Piled}
 use Rattle.register.specs.Representation.{latest}

@@ -4,7 +4,7 @@ use native.Mathlib.Nat.{mul-le-mul, suc-mul}
 use mathlib.Core.Path.{◌≡◌, sym, subst}
 use Prim.Native.Nat.{ℕ, suc, ◌+◌, ◌*◌, ◌≤◌}
 use lib.ListN.{length}
-use Rattle.query.specs.WorkLaws.{width_le}
+use Rattle.query.proofs.WorkLaws.{width_le}
 use Rattle.rowpairs.proofs.MemberLaws.{meets_joined}
 use borrow.Author.Rules.{rules}
 use Rattle.rowpairs.proofs.leaving.joins_some.Statement.{statement}

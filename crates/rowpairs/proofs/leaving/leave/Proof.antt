@@ -9,8 +9,8 @@ use Rattle.paths.specs.Grammar.{accepted}
 use Rattle.paths.specs.Verdicts.{verdict}
 use Rattle.paths.specs.Questions.{by_trees, pairs_work}
 use Rattle.query.specs.Evaluation.{Coded}
-use Rattle.query.specs.EvaluationLaws.{read_coded}
-use Rattle.query.specs.AskingLaws.{leaves_faulty, leaves_short, leaves_made}
+use Rattle.query.proofs.EvaluationLaws.{read_coded}
+use Rattle.query.proofs.AskingLaws.{leaves_faulty, leaves_short, leaves_made}
 use Rattle.rowpairs.specs.Evaluation.{Held}
 use Rattle.rowpairs.proofs.AnswerLaws.{enough_work}
 use borrow.Author.Rules.{rules}

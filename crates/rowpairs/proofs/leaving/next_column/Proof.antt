@@ -9,7 +9,7 @@ use lib.ListN.{get_or}
 use Rattle.k2.specs.Bits.{digit, bit_at}
 use Rattle.bits.specs.BitSets.{Gap}
 use Rattle.bits.specs.BitSetLaws.{gap_join}
-use Rattle.query.specs.WorkLaws.{width_le}
+use Rattle.query.proofs.WorkLaws.{width_le}
 use Rattle.rowpairs.specs.Evaluation.{relation_in}
 use Rattle.rowpairs.proofs.CellLaws.{column_empty, column_skip, column_gap, column_hit}
 use Rattle.rowpairs.proofs.leaving.next_column.Statement.{statement}

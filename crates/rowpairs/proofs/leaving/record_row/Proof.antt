@@ -6,7 +6,7 @@ use native.Mathlib.Omega.{arith}
 use lib.ListN.{length, take}
 use lib.Seq.{take_all}
 use borrow.Author.Rules.{rules}
-use Rattle.book.specs.ListLaws.{at_in}
+use Rattle.book.proofs.ListLaws.{at_in}
 use Rattle.k2.specs.Bits.{bit_at}
 use Rattle.bits.specs.BitSetLaws.{bits_none}
 use Rattle.rowpairs.specs.Evaluation.{Members}

@@ -9,8 +9,8 @@ use Rattle.paths.specs.Expressions.{Expr}
 use Rattle.paths.specs.Grammar.{accepted}
 use Rattle.paths.specs.Verdicts.{verdict}
 use Rattle.query.specs.Evaluation.{Coded}
-use Rattle.query.specs.EvaluationLaws.{read_coded}
-use Rattle.query.specs.AskingLaws.{asks_faulty, asks_short, asks_pairs}
+use Rattle.query.proofs.EvaluationLaws.{read_coded}
+use Rattle.query.proofs.AskingLaws.{asks_faulty, asks_short, asks_pairs}
 use Rattle.rowpairs.proofs.AnswerLaws.{enough_work}
 use borrow.Author.Rules.{rules}
 use Rattle.rowpairs.proofs.listing.answer.Statement.{statement}

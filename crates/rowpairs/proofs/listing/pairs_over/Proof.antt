@@ -1,7 +1,7 @@
 -- `pairs_over` asks with the marks and links that were read. Assumes nothing.
 use native.Mathlib.Omega.{arith}
 use Rattle.paths.specs.Questions.{by_rows}
-use Rattle.query.specs.LetterLaws.{read_known}
+use Rattle.query.proofs.LetterLaws.{read_known}
 use borrow.Author.Rules.{rules}
 use Rattle.rowpairs.proofs.listing.pairs_over.Statement.{statement}
 use Rattle.rowpairs.proofs.listing.pairs_over.Tie as tie

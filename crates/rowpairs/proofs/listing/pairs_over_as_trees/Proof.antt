@@ -1,7 +1,7 @@
 -- `pairs_over_as_trees` asks with the marks and links that were read, and the work of trees. Assumes nothing.
 use native.Mathlib.Omega.{arith}
 use Rattle.paths.specs.Questions.{by_trees}
-use Rattle.query.specs.LetterLaws.{read_known}
+use Rattle.query.proofs.LetterLaws.{read_known}
 use borrow.Author.Rules.{rules}
 use Rattle.rowpairs.proofs.listing.pairs_over_as_trees.Statement.{statement}
 use Rattle.rowpairs.proofs.listing.pairs_over_as_trees.Tie as tie

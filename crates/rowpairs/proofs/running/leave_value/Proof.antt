@@ -5,7 +5,7 @@ use Prim.Native.Nat.{ℕ, ◌≤◌, ◌<◌}
 use native.Mathlib.Omega.{arith}
 use lib.ListN.{length, take}
 use lib.Seq.{length-take-le}
-use Rattle.query.specs.WorkLaws.{rows_few}
+use Rattle.query.proofs.WorkLaws.{rows_few}
 use Rattle.rowpairs.proofs.AnswerLaws.{front_le, value_copied}
 use borrow.Author.Rules.{rules}
 use Rattle.rowpairs.proofs.running.leave_value.Statement.{statement}

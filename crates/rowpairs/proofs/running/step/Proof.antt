@@ -5,7 +5,7 @@ use Prim.Native.Nat.{ℕ, suc, ◌-◌, ◌*◌, ◌≤◌}
 use native.Mathlib.Nat.{suc-mul}
 use lib.ListN.{length}
 use Rattle.paths.specs.Questions.{row_width}
-use Rattle.query.specs.WorkLaws.{unit_le}
+use Rattle.query.proofs.WorkLaws.{unit_le}
 use Rattle.rowpairs.specs.Evaluation.{Lent}
 use Rattle.rowpairs.proofs.StepLaws.{start_le, mark_le, lent_space, goes_part}
 use borrow.Author.Rules.{rules}

@@ -5,7 +5,7 @@ use native.Mathlib.Omega.{arith}
 use borrow.Author.Rules.{rules}
 use Rattle.k2.specs.Bits.{digit}
 use Rattle.automaton.specs.Automata.{On}
-use Rattle.automaton.specs.LowestLaws.{some_digit}
+use Rattle.automaton.proofs.LowestLaws.{some_digit}
 use Rattle.search.proofs.FrontierLaws.{added_zero, added_past, added_more, listed_old, list_room, listed_new}
 use Rattle.search.proofs.levels.add_states.Statement.{statement}
 use Rattle.search.proofs.levels.add_states.Tie as tie

@@ -14,10 +14,10 @@ use Rattle.book.specs.Basics.{pick, has, without, tally}
 use Rattle.book.specs.Causes.{no_record, bad_label, locked_end, already, missing, full, withdrawn_record, number, first_number, labels, max_links}
 use Rattle.book.specs.Book.{Link, same_link, Sheet, Book, Edit, add, remove, edit, present, is_locked, is_withdrawn, total, causes, edit_answer, edited}
 use Rattle.book.specs.Book.{turned, answer, next}
-use Rattle.book.specs.SetLaws.{same_link_test, without_other}
-use Rattle.book.specs.BookLaws.{first-none}
+use Rattle.book.proofs.SetLaws.{same_link_test, without_other}
+use Rattle.book.proofs.BookLaws.{first-none}
 use Rattle.book.specs.Orders.{Single, adds, removes, link_in, Alike}
-use Rattle.book.specs.OrderLaws.{exchange_free, links_alike, marks_kept, taken}
+use Rattle.book.proofs.OrderLaws.{exchange_free, links_alike, marks_kept, taken}
 
 module _ (b : Book) (room : length b.sheet.links < max_links) {d e : Edit} (x : Single d) (y : Single e) (apart : link_in x ≡ link_in y → ⊥)
     (p : answer b (edit d) ≡ 0) (q : answer (next b (edit d)) (edit e) ≡ 0) where

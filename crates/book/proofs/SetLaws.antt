@@ -23,7 +23,7 @@ use Rattle.std.proofs.Math.ListN.{length}
 use Rattle.book.specs.Basics.{pick, In, here, there, has, without}
 use Rattle.book.specs.Book.{Link, same_link}
 use Rattle.book.specs.Sheets.{Distinct}
-use Rattle.book.specs.ListLaws.{map_in, in_map}
+use Rattle.book.proofs.ListLaws.{map_in, in_map}
 
 pub and_both : (a b : Bool) → (a && b) ≡ true → (a ≡ true) × (b ≡ true)
 and_both true b e = (refl, e)

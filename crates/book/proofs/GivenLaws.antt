@@ -7,8 +7,8 @@ use Rattle.std.proofs.lemmas.List.{get_or_at}
 use Rattle.book.specs.Basics.{pick}
 use Rattle.book.specs.Causes.{none_in_use, short_list}
 use Rattle.book.specs.Book.{Sheet, Book, close, used, rank, close_causes, close_answer, no_number, new_numbers, close_given, given}
-use Rattle.book.specs.RankLaws.{rank_same}
-use Rattle.book.specs.BookLaws.{first-none}
+use Rattle.book.proofs.RankLaws.{rank_same}
+use Rattle.book.proofs.BookLaws.{first-none}
 
 pub length-numbers : (u : ℕ → Bool) (n : ℕ) → length (new_numbers u n) ≡ n
 unfolding new_numbers

@@ -32,11 +32,11 @@ use Rattle.book.specs.Book.{Link, same_link, Sheet, Book, Edit, add, remove, loc
 use Rattle.book.specs.Book.{is_withdrawn, touched, used, causes, edit_answer, edited, turned, undo_answer, undone, close_causes, close_answer, closed, answer}
 use Rattle.book.specs.Book.{next, fresh, after}
 use Rattle.book.specs.Sheets.{Distinct, Proper, Fit, Sound}
-use Rattle.book.specs.RankLaws.{rank_le}
-use Rattle.book.specs.CloseLaws.{closed_fit}
-use Rattle.book.specs.SetLaws.{same_link_test, eqb_test, and_both, or_neither, or_else, or-true, has_in, in_has, has_without, absent_without}
-use Rattle.book.specs.SetLaws.{distinct_without}
-use Rattle.book.specs.SetLaws.{length_without}
+use Rattle.book.proofs.RankLaws.{rank_le}
+use Rattle.book.proofs.CloseLaws.{closed_fit}
+use Rattle.book.proofs.SetLaws.{same_link_test, eqb_test, and_both, or_neither, or_else, or-true, has_in, in_has, has_without, absent_without}
+use Rattle.book.proofs.SetLaws.{distinct_without}
+use Rattle.book.proofs.SetLaws.{length_without}
 
 -- ---- causes
 -- every edit's causes are looked for in the order of S6.6

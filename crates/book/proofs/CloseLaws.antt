@@ -9,10 +9,10 @@ use Rattle.book.specs.Causes.{none_held, number}
 use Rattle.book.specs.Book.{Link, Sheet, Book, undo, close, present, is_locked, is_withdrawn, used, rank, renamed_link, closed_sheet, close_answer, closed}
 use Rattle.book.specs.Book.{undo_answer, total, answer, next}
 use Rattle.book.specs.Sheets.{Distinct, Proper, Fit}
-use Rattle.book.specs.SetLaws.{eqb_test, same_link_test, link_is, and_both, has_map, map_has, distinct_map}
-use Rattle.book.specs.ListLaws.{length-map}
-use Rattle.book.specs.TotalLaws.{tally_map}
-use Rattle.book.specs.RankLaws.{rank_less, rank_apart}
+use Rattle.book.proofs.SetLaws.{eqb_test, same_link_test, link_is, and_both, has_map, map_has, distinct_map}
+use Rattle.book.proofs.ListLaws.{length-map}
+use Rattle.book.proofs.TotalLaws.{tally_map}
+use Rattle.book.proofs.RankLaws.{rank_less, rank_apart}
 
 -- ---- records in use
 pub used-below : (n : ℕ) (s : Sheet) (x : ℕ) → used n s x ≡ true → x < n

@@ -10,7 +10,7 @@ use Rattle.book.specs.Basics.{pick, bit, In, here, there, has, without, tally}
 use Rattle.book.specs.Causes.{bad_label, number, first_number, labels}
 use Rattle.book.specs.Book.{Link, same_link, Sheet, add, remove, lock, unlock, withdraw, reinstate, present, edited, total, total_number}
 use Rattle.book.specs.Sheets.{Distinct}
-use Rattle.book.specs.SetLaws.{EqualityTest, same_link_test, without_absent}
+use Rattle.book.proofs.SetLaws.{EqualityTest, same_link_test, without_absent}
 
 bit_le : (b : Bool) → bit b ≤ 1
 bit_le true = omega arith

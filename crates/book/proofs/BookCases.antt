@@ -27,7 +27,7 @@ use Rattle.book.specs.Causes.{number, first_number, max_links}
 use Rattle.book.specs.Book.{Link, same_link, Sheet, add, remove, lock, unlock, withdraw, reinstate, Call, edit, undo, close, touched, causes, edit_answer}
 use Rattle.book.specs.Book.{edited, turned, undo_answer, undone, rank, closed_sheet, close_causes, close_answer, closed, new_numbers, close_given, fresh_answer}
 use Rattle.book.specs.Book.{total, total_number, answer, next, given, fresh, answers, after, givens}
-use Rattle.book.specs.OrderLaws.{unlike}
+use Rattle.book.proofs.OrderLaws.{unlike}
 
 abbrev link : ℕ → ℕ → ℕ → Link
 link f l t = record { from = f; label = l; to = t }
