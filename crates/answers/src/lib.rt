@@ -1,11 +1,13 @@
 // What a call that counts answers, and how it is told as one number; words written into a list that is lent, one copy for each width.
+#![tactic(auto)]
+
 ghost use Rattle.std.specs.Prelude.{◌≡◌, [], ◌∷◌, ◌+◌, ◌≤◌, length};
 ghost use Rattle.answers.specs.Answers.{refusal, told_counted};
 ghost use Rattle.answers.specs.Listing.{Grown};
 ghost use Rattle.answers.specs.Written.{Wrote};
 
 // The answer of a call that counts: how many there are, or refused with the number of the cause.
-#[derive(Drop)]
+#[derive(Clone, Copy)]
 pub enum Counted {
     Count(usize),
     Refused(u32),

@@ -1,5 +1,7 @@
 // These functions read, set, count and find bits in slices of 64-bit words: bit p is bit p % 64 of word p / 64.
 // What they promise is stated by `bit_at` and `ones_below` of crate k2, and by specs/BitSets.antt.
+#![tactic(auto)]
+
 ghost use Rattle.std.specs.Prelude.{◌≡◌, ◌+◌, ◌*◌, ◌/◌, ◌%◌, ◌^◌, ◌<◌, ◌≤◌, min, length, replicate};
 ghost use Rattle.std.specs.Int.Count.{count_trailing_zeros};
 ghost use Rattle.k2.specs.Bits.{bit_at, ones_below};

@@ -1,5 +1,7 @@
 // The definitions under specs/ say what sets of pairs and their k2-trees are; their laws stand beside them. The code gives the sizes of a tree for n records:
 // its height, the bits of a full one, and D, the words of a full one. They are defined in specs/Trees.antt and specs/Heap.antt.
+#![tactic(auto)]
+
 ghost use Rattle.std.specs.Prelude.{◌≡◌, ◌^◌, ◌≤◌};
 ghost use Rattle.book.specs.Causes.{max_records};
 ghost use Rattle.k2.specs.Sizes.{most_tree_words, most_tree_bits};

@@ -1,5 +1,7 @@
 // A link as one word, label, from and to, each times its unit: made, and taken apart here alone. A pair word is the word of a link of label 0. Of many words:
 // sorted.rt ascending words, totals.rt how many are of each label, lookups.rt those of one label and of one record.
+#![tactic(auto)]
+
 mod lookups;
 mod sorted;
 mod totals;
