@@ -1,4 +1,6 @@
 // The crossings of a sheet's links as arcs, and an index that leads from a record to its arcs.
+#![tactic(auto)]
+
 ghost use Rattle.std.specs.Prelude.{◌≡◌, ℕ, ◌+◌, ◌*◌, ◌<◌, ◌≤◌, length, get_or};
 ghost use Rattle.book.specs.Causes.{max_records, max_links};
 ghost use Rattle.arcs.specs.Arcs.{max_arcs, arc_of, arc_from, arc_to, Crossings, NoUse, PutIf};

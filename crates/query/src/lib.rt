@@ -1,4 +1,6 @@
 // What the engines of pair questions share: the records in use as bits, and the words of work that each of them needs.
+#![tactic(auto)]
+
 ghost use Rattle.std.specs.Prelude.{◌≡◌, ◌≤◌, length};
 ghost use Rattle.book.specs.Causes.{max_records};
 ghost use Rattle.k2.specs.Bits.{bit_at};

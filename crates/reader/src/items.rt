@@ -26,7 +26,7 @@ const LABEL_SETS: u64 = 67108864;
 // What a number of a code is: the letters that a symbol stands for, or an operator. The letters are two sets of labels, of 26 bits: bit l of the
 // first is set if the letter l is one of them plain, so that links of the label l are crossed forward; bit l of the second if it is inverted, so that
 // they are crossed against their sense.
-#[derive(Drop)]
+#[derive(Clone, Copy)]
 pub enum Item {
     Letters(u32, u32),
     Inverse,

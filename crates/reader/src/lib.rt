@@ -1,6 +1,8 @@
 // The expression reader: alternatives, sequences and parts read one another through a group, over lent bytes and a position; symbols.rt has letters and
 // negated sets. What is written is the postfix code of the expression, in the numbers of items.rt. A code is no longer than its text, so there is always
 // room.
+#![tactic(auto)]
+
 mod items;
 mod symbols;
 
@@ -24,7 +26,7 @@ const TOO_MANY_BYTES: u8 = book::TOO_MANY_BYTES as u8;
 const TOO_LARGE: u8 = book::TOO_LARGE as u8;
 
 // An expression that was read: where it ends in the text and in the code, how many letters it has, and how deep its groups are nested.
-#[derive(Drop)]
+#[derive(Clone, Copy)]
 struct Spot {
     at: usize,
     end: usize,
@@ -33,7 +35,7 @@ struct Spot {
 }
 
 // What a reader finds.
-#[derive(Drop)]
+#[derive(Clone, Copy)]
 enum Parsed {
     Got(Spot),
     Fault,
@@ -239,7 +241,7 @@ fn closed(s: &[u8], r: Parsed) -> Parsed
 }
 
 // The answer to a text: accepted, with the length of its code, or refused, with the number of the cause.
-#[derive(Drop)]
+#[derive(Clone, Copy)]
 pub enum Answer {
     Accepted(usize),
     Refused(u8),

@@ -10,7 +10,7 @@ ghost use Rattle.reader.specs.Progress.{Stands, label_at, Marked, MemberAt, othe
 const ALL_LABELS: u32 = 67108863;
 
 // The letters of a symbol that was read, as two sets of labels, and where it ends in the text.
-#[derive(Drop)]
+#[derive(Clone, Copy)]
 pub struct Letters {
     pub at: usize,
     pub forward: u32,
@@ -18,7 +18,7 @@ pub struct Letters {
 }
 
 // What is read where a symbol may stand.
-#[derive(Drop)]
+#[derive(Clone, Copy)]
 pub enum Symbol {
     Read(Letters),
     Missing,

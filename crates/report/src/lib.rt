@@ -1,5 +1,7 @@
 // The program's lines, written into a lent slice of bytes from a place on. What they are is defined in specs/Report.antt.
 // Each function hands back the place after what it wrote; the bytes before and after are as they were (specs/Written.antt).
+#![tactic(auto)]
+
 ghost use Rattle.std.specs.Prelude.{[], ◌∷◌, ◌+◌, ◌*◌, ◌≤◌, ◌<◌, length, ◌≡◌};
 ghost use Rattle.report.specs.Report.{decimal, counted, pair_line, step_line, label_letter, sense_sign, ok_text, none_text, refused_text, pairs_text, chain_text};
 ghost use Rattle.report.specs.Report.{answer_text, total_text};

@@ -21,7 +21,7 @@ use mathlib.Core.List.{List, [], ◌∷◌, ◌++◌, map, append-nil, append_as
 use Prim.Native.Nat.{ℕ, zero, suc, ◌+◌, ◌-◌, ◌*◌, ◌/◌, ◌%◌, ◌≤◌, ◌<◌}
 use native.Mathlib.Omega.{arith}
 use Rattle.std.proofs.Math.Seq.{take-length}
-use Rattle.book.specs.Basics.{pick, bit, has, In, here, there}
+use Rattle.book.specs.Basics.{pick, has, In, here, there}
 use Rattle.k2.specs.Bits.{digit, bit_at}
 use Rattle.k2.specs.DigitLaws.{digit_none}
 use Rattle.k2.specs.PairSets.{Cells, IsSet, if_set, row_pairs, rows_pairs, listed, set_of, union, intersection, difference, transpose, PairsBelow}

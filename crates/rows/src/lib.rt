@@ -1,5 +1,7 @@
 // Sets of pairs of records below 1,024 as rows of bits, and their algebra: 1,024 rows of 16 words, so that bit p of the rows is the pair
 // word p, from * 1024 + to. A square of a row is one of its words: 64 columns.
+#![tactic(auto)]
+
 ghost use Rattle.std.specs.Prelude.{◌≡◌, true, ◌++◌, ℕ, ◌/◌, ◌≤◌, ◌<◌, eqb, length, take, drop};
 ghost use Rattle.book.specs.Causes.{max_records};
 ghost use Rattle.k2.specs.Sizes.{rows_words};

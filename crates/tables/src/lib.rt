@@ -1,5 +1,7 @@
 // The tables of an expression's automaton are made here, as sets of bits, from its postfix code. What they are is stated by `Masked` of crate automaton;
 // specs/Builds.antt has the tables while they are made.
+#![tactic(auto)]
+
 ghost use Rattle.std.specs.Prelude.{◌≡◌, List, ◌∷◌, ℕ, ◌+◌, ◌<◌, ◌≤◌, length};
 ghost use Rattle.book.specs.Causes.{max_letters};
 ghost use Rattle.k2.specs.Bits.{digit};
@@ -20,7 +22,7 @@ const STATES: usize = book::MAX_LETTERS + 1;
 const PLACES: usize = 19;
 
 // The expressions that wait: of each its first, last and own positions and whether it has the empty word; how many they are, and the positions used.
-#[derive(Drop)]
+#[derive(Clone, Copy)]
 pub struct Stack {
     pub first: [u64; PLACES],
     pub last: [u64; PLACES],
