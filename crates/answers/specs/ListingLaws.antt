@@ -7,7 +7,8 @@
 --                  one part after another, up to the whole list
 -- Assumes nothing.
 use Rattle.std.specs.Prelude.{◌≡◌, refl, List, [], ◌∷◌, ◌++◌, ℕ, zero, suc, ◌≤◌, ◌<◌, length, get_or, set, take, drop}
-use Rattle.std.proofs.Common.{sym, ap, ap₂, subst, ◌∙◌, append-nil, append_assoc, add-one, arith, length-append, length-drop, drop_of_length-le, drop_at, drop-cons, take_all, length-take-le}
+use Rattle.std.proofs.Common.{sym, ap, ap₂, subst, ◌∙◌, append-nil, append_assoc, add-one, arith, length-append, length-drop, drop_of_length-le, drop_at}
+use Rattle.std.proofs.Common.{drop-cons, take_all, length-take-le}
 use Rattle.std.proofs.Math.Decide.{dec_lt}
 use Rattle.std.proofs.lemmas.List.{set_at, take-append-le}
 use Rattle.book.specs.Basics.{over}

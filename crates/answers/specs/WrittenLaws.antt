@@ -1,7 +1,8 @@
 -- Laws of writing: lengths are kept, nothing written is nothing changed, one text after another is both as one.
 -- Assumes nothing.
 use Rattle.std.specs.Prelude.{◌≡◌, refl, List, [], ◌∷◌, ◌++◌, ℕ, ◌+◌, ◌≤◌, ◌<◌, length, take, drop, get_or, set}
-use Rattle.std.proofs.Common.{sym, ap, subst, ◌∙◌, append_assoc, add-zero, add_assoc, add-one, arith, length-append, length-drop, take-append-drop, length-take-le, take-suc, take_at, drop_at, drop-drop}
+use Rattle.std.proofs.Common.{sym, ap, subst, ◌∙◌, append_assoc, add-zero, add_assoc, add-one, arith, length-append, length-drop, take-append-drop}
+use Rattle.std.proofs.Common.{length-take-le, take-suc, take_at, drop_at, drop-drop}
 use Rattle.std.proofs.lemmas.List.{set_split}
 use Rattle.answers.specs.Written.{written, Wrote}
 

@@ -52,7 +52,8 @@ module _ {key : ℕ → ℕ} {k : ℕ} {ix : List ℕ} (I : Indexed key k ix) (s
   next_here : next_arc ix₂ k ≡ first_arc ix (key k)
   unfolding first_arc next_arc
   next_here =
-      get_or-set_other ix₁ (key k) (1024 + k) (k + 1) 0 (λ e. (let z = small k in omega arith)) ∙ get_or-set_same ix (1024 + k) (get_or ix (key k) 0) 0 (omega arith)
+      get_or-set_other ix₁ (key k) (1024 + k) (k + 1) 0 (λ e. (let z = small k in omega arith)) ∙
+      get_or-set_same ix (1024 + k) (get_or ix (key k) 0) 0 (omega arith)
 
   next_off : (j : ℕ) → (j ≡ k → ⊥) → next_arc ix₂ j ≡ next_arc ix j
   unfolding next_arc

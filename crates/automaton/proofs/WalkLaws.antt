@@ -12,7 +12,8 @@ use Prim.Native.Nat.{ℕ, suc, ◌<◌}
 use Rattle.std.proofs.Math.Nat.{suc_inj}
 use Rattle.std.proofs.Math.ListN.{length}
 use Rattle.paths.specs.Expressions.{Expr}
-use Rattle.paths.specs.Chains.{Graph, Step, step_word, spell, step_words, Answers, Before, same as same-words, smaller, alike, NotAfter, shorter, as_long, First}
+use Rattle.paths.specs.Chains.{Graph, Step, step_word, spell, step_words, Answers, Before, same as same-words, smaller, alike, NotAfter, shorter, as_long}
+use Rattle.paths.specs.Chains.{First}
 use Rattle.paths.specs.Words.{Words}
 use Rattle.paths.proofs.FirstChainLaws.{length_step_words}
 use Rattle.automaton.specs.Automata.{On, is, Automaton, automaton, Run}

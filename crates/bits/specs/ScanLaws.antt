@@ -39,7 +39,8 @@ module _ (ws : List ℕ) (q s : ℕ) (fits : get_or ws q 0 < 2 ^ 64) (some : 0 <
   }
 
 -- the same of a whole word
-pub next_word : (ws : List ℕ) (q end r : ℕ) → get_or ws q 0 < 2 ^ 64 → 0 < get_or ws q 0 → q * 64 ≤ end → r ≡ min end (q * 64 + count_trailing_zeros 64 (get_or ws q 0))
+pub next_word : (ws : List ℕ) (q end r : ℕ) → get_or ws q 0 < 2 ^ 64 → 0 < get_or ws q 0 → q * 64 ≤ end
+    → r ≡ min end (q * 64 + count_trailing_zeros 64 (get_or ws q 0))
     → Next (bit_at ws) (q * 64) end r
 next_word ws q end r f h l e = next_here ws q 0 f (rw div-one h) (q * 64) end r (omega arith) l (rw div-one e)
 

@@ -162,7 +162,8 @@ links_equal : (s t : Sheet) → s.links ≡ t.links → LinksAlike s t
 unfolding total
 links_equal s t p = (λ k. ap (has same_link k) p, λ l. ap (tally (λ j. eqb j.label l)) p)
 
-pub links_alike : (s : Sheet) {d e : Edit} (x : Single d) (y : Single e) → (link_in x ≡ link_in y → ⊥) → LinksAlike (edited e (edited d s)) (edited d (edited e s))
+pub links_alike : (s : Sheet) {d e : Edit} (x : Single d) (y : Single e) → (link_in x ≡ link_in y → ⊥)
+    → LinksAlike (edited e (edited d s)) (edited d (edited e s))
 unfolding link_in edited has without total tally
 links_alike s (adds {k = j}) (adds {k}) h = (λ m. or_swap (same_link k m) (same_link j m) (present s m), λ l. omega arith)
 links_alike s (adds {k = j}) (removes {k}) h = links_equal (edited (remove k) (edited (add j) s)) (edited (add j) (edited (remove k) s)) (rw (unlike j k h))

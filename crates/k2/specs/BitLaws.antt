@@ -21,7 +21,8 @@
 -- Assumes nothing.
 use Rattle.std.specs.Prelude.{◌≡◌, List, [], ◌∷◌, ◌++◌, ℕ, zero, suc, ◌+◌, ◌-◌, ◌*◌, ◌/◌, ◌%◌, ◌^◌, ◌≤◌, ◌<◌, length, get_or, set, take, replicate}
 use Rattle.std.proofs.Math.Path.{refl, fun_ext}
-use Rattle.std.proofs.Common.{sym, ap, ◌∙◌, zero-le, add-zero, zero-add, add-suc, suc-add, add_comm, mod-lt, mod-eq_of_lt, mul-div_cancel, pow-suc, not-suc-le-zero, le_of_suc-le-suc, one-add, arith, pow_pos, get_or-set_same, get_or-set_other, get_or-take, ext_get_or}
+use Rattle.std.proofs.Common.{sym, ap, ◌∙◌, zero-le, add-zero, zero-add, add-suc, suc-add, add_comm, mod-lt, mod-eq_of_lt, mul-div_cancel, pow-suc}
+use Rattle.std.proofs.Common.{not-suc-le-zero, le_of_suc-le-suc, one-add, arith, pow_pos, get_or-set_same, get_or-set_other, get_or-take, ext_get_or}
 use Rattle.std.proofs.Math.Nat.{mod-one, mul-mod_left}
 use Rattle.std.proofs.Math.Decide.{dec_lt, ℕ_discrete}
 use Rattle.std.specs.Int.Count.{ones}

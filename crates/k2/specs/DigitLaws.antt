@@ -11,7 +11,8 @@
 --   digits_tell           the digits of a number tell it
 -- Assumes nothing.
 use Rattle.std.specs.Prelude.{◌≡◌, ℕ, zero, suc, ◌+◌, ◌-◌, ◌*◌, ◌/◌, ◌%◌, ◌^◌, ◌≤◌, ◌<◌, min, max, eqb, leb}
-use Rattle.std.proofs.Common.{sym, ◌∙◌, pow-suc, div-one, mul-div_cancel, zero-lt-suc, one-mul, mul-one, lt_of_lt_of_le, arith, lit<, shl_exact, shr-shr, pow_mono}
+use Rattle.std.proofs.Common.{sym, ◌∙◌, pow-suc, div-one, mul-div_cancel, zero-lt-suc, one-mul, mul-one, lt_of_lt_of_le, arith, lit<, shl_exact, shr-shr}
+use Rattle.std.proofs.Common.{pow_mono}
 use Rattle.std.proofs.Math.Nat.{div-div-eq-div-mul, pow-succ', zero-div, mul-mod_left, div-eq_of_lt, sub-zero, suc-sub-suc}
 use Rattle.std.specs.Int.Bits.{bit_and, bit_or, and_step, or_step, shifted_half, shifted_even}
 use Rattle.std.proofs.lemmas.Nat.{and_shr, or_shr}

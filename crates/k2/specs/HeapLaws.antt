@@ -10,7 +10,8 @@
 -- Assumes nothing.
 use Rattle.std.specs.Prelude.{◌≡◌, List, [], ◌∷◌, ◌++◌, map, length, get_or}
 use Rattle.std.proofs.Math.Path.{refl, ap, fun_ext}
-use Rattle.std.proofs.Common.{sym, ◌∙◌, append_assoc, append-nil, add-zero, add-suc, add_assoc, mul_comm, mul_assoc, add-mul, mod-lt, pow-suc, length-append, get_or-append-add, pow_pos}
+use Rattle.std.proofs.Common.{sym, ◌∙◌, append_assoc, append-nil, add-zero, add-suc, add_assoc, mul_comm, mul_assoc, add-mul, mod-lt, pow-suc, length-append}
+use Rattle.std.proofs.Common.{get_or-append-add, pow_pos}
 use Prim.Native.Nat.{ℕ, zero, suc, ◌+◌, ◌-◌, ◌*◌, ◌%◌, ◌^◌, ◌≤◌, ◌<◌, min, max}
 use Rattle.std.proofs.Math.Nat.{mod-one}
 use Rattle.std.proofs.Math.Decide.{dec_lt}

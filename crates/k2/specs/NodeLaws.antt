@@ -15,7 +15,8 @@
 -- Assumes nothing.
 use Rattle.std.specs.Prelude.{◌≡◌}
 use Rattle.std.proofs.Math.Path.{refl}
-use Rattle.std.proofs.Common.{sym, ap, ap₂, ◌∙◌, subst, suc-add, add_assoc, not-suc-le-zero, le_of_suc-le-suc, mod-lt, div-add-mod', div-lt_iff_lt-mul, pow-suc, length-append, get_or-append-add, pow_pos}
+use Rattle.std.proofs.Common.{sym, ap, ap₂, ◌∙◌, subst, suc-add, add_assoc, not-suc-le-zero, le_of_suc-le-suc, mod-lt, div-add-mod', div-lt_iff_lt-mul, pow-suc}
+use Rattle.std.proofs.Common.{length-append, get_or-append-add, pow_pos}
 use mathlib.Core.List.{List, [], ◌∷◌, ◌++◌, map, append_assoc}
 use Prim.Native.Nat.{ℕ, zero, suc, ◌+◌, ◌*◌, ◌/◌, ◌%◌, ◌^◌, ◌<◌}
 use Rattle.std.proofs.Math.Nat.{zero-add}
@@ -61,7 +62,8 @@ module _ (t : Cells → ℕ) (bit : (a : Cells) → t a < 2) where
       go (suc zero) h l = omega arith
       go (suc (suc b)) h l = absurd (omega arith)
 
-  pub keep_at : (qs : List Cells) (k : ℕ) (d : Cells) → k < length qs → t (get_or qs k d) ≡ 1 → get_or (keep t qs) (ones_below (bits_of (map t qs)) k) d ≡ get_or qs k d
+  pub keep_at : (qs : List Cells) (k : ℕ) (d : Cells) → k < length qs → t (get_or qs k d) ≡ 1
+      → get_or (keep t qs) (ones_below (bits_of (map t qs)) k) d ≡ get_or qs k d
   unfolding ones_below keep
   keep_at [] k d h e = absurd (not-suc-le-zero h)
   keep_at (a ∷ qs) zero d h e = rw e

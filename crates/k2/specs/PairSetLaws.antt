@@ -278,7 +278,8 @@ in_row : {w : ℕ} (a : Cells) (x m : ℕ) → In w (row_pairs a x m) → (y : �
 unfolding row_pairs
 in_row {w = w} a x zero h = absurd (in_none h refl)
 in_row {w = w} a x (suc m) h = ⊎_elim
-    (λ (p : In w (row_pairs a x m)). let r : ((y : ℕ) × (y < m) × (1 ≤ a x y) × (w ≡ pair_word x y)) = in_row {w = w} a x m p in (r.0, omega (arith, r.1), r.2, r.3))
+    (λ (p : In w (row_pairs a x m)). let r : ((y : ℕ) × (y < m) × (1 ≤ a x y) × (w ≡ pair_word x y)) = in_row {w = w} a x m p in
+    (r.0, omega (arith, r.1), r.2, r.3))
     (λ p. let r = in_if (a x m) (pair_word x m) p in (m, omega arith, r.0, r.1))
     (in_either (row_pairs a x m) (if_set (a x m) (pair_word x m)) h)
 
@@ -297,7 +298,8 @@ in_rows : {w : ℕ} (a : Cells) (n m : ℕ) → In w (rows_pairs a n m) → (x y
 unfolding rows_pairs
 in_rows {w = w} a n zero h = absurd (in_none h refl)
 in_rows {w = w} a n (suc m) h = ⊎_elim
-    (λ (p : In w (rows_pairs a n m)). let r : ((x y : ℕ) × (x < m) × (y < n) × (1 ≤ a x y) × (w ≡ pair_word x y)) = in_rows {w = w} a n m p in (r.0, r.1, omega (arith, r.2), r.3, r.4, r.5))
+    (λ (p : In w (rows_pairs a n m)). let r : ((x y : ℕ) × (x < m) × (y < n) × (1 ≤ a x y) × (w ≡ pair_word x y)) = in_rows {w = w} a n m p in
+    (r.0, r.1, omega (arith, r.2), r.3, r.4, r.5))
     (λ p. let r = in_row a m n p in (m, r.0, omega arith, r.1, r.2, r.3))
     (in_either (rows_pairs a n m) (row_pairs a m n) h)
 

@@ -11,7 +11,8 @@
 --                       by blocks of 8 × 8, whose 64 places follow one another
 -- Assumes nothing.
 use Rattle.std.specs.Prelude.{◌≡◌, refl, ℕ, zero, suc, ◌+◌, ◌*◌, ◌/◌, ◌%◌, ◌^◌, ◌<◌}
-use Rattle.std.proofs.Common.{sym, ap, ◌∙◌, add-zero, mul_comm, mul_assoc, add-mul, mod-lt, div-add-mod', pow-suc, div-lt_iff_lt-mul, mod-eq_of_lt, arith, pow_pos}
+use Rattle.std.proofs.Common.{sym, ap, ◌∙◌, add-zero, mul_comm, mul_assoc, add-mul, mod-lt, div-add-mod', pow-suc, div-lt_iff_lt-mul, mod-eq_of_lt, arith}
+use Rattle.std.proofs.Common.{pow_pos}
 use Rattle.std.proofs.Math.Nat.{div-div-eq-div-mul, mul-add-div_right, mul-add-mod_self_right, div-eq_of_lt}
 use Rattle.std.proofs.Math.Arith.{mod-mul}
 use Rattle.std.proofs.Math.Pow.{field, mod-mod-pow}

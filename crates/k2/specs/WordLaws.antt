@@ -52,7 +52,8 @@ unfolding count_trailing_zeros
 trailing_set zero w h l = absurd (omega arith)
 trailing_set (suc k) w h l = go (w % 2) refl (trailing_set k (w / 2))
   where
-    go : (d : ℕ) → w % 2 ≡ d → (0 < w / 2 → w / 2 < 2 ^ k → digit (w / 2) (count_trailing_zeros k (w / 2)) ≡ 1) → digit w (under d (count_trailing_zeros k (w / 2))) ≡ 1
+    go : (d : ℕ) → w % 2 ≡ d → (0 < w / 2 → w / 2 < 2 ^ k → digit (w / 2) (count_trailing_zeros k (w / 2)) ≡ 1)
+        → digit w (under d (count_trailing_zeros k (w / 2))) ≡ 1
     go zero e ih = digit-suc w (count_trailing_zeros k (w / 2)) ∙ ih (omega arith) (omega (arith, pow-suc 2 k))
     go (suc d) e ih = digit_zero w ∙ omega arith
 
@@ -61,7 +62,8 @@ unfolding count_trailing_zeros
 trailing_clear zero w j h = absurd (omega arith)
 trailing_clear (suc k) w j h = go (w % 2) refl j h (trailing_clear k (w / 2))
   where
-    go : (d : ℕ) → w % 2 ≡ d → (j : ℕ) → j < under d (count_trailing_zeros k (w / 2)) → ((i : ℕ) → i < count_trailing_zeros k (w / 2) → digit (w / 2) i ≡ 0) → digit w j ≡ 0
+    go : (d : ℕ) → w % 2 ≡ d → (j : ℕ) → j < under d (count_trailing_zeros k (w / 2)) → ((i : ℕ) → i < count_trailing_zeros k (w / 2) → digit (w / 2) i ≡ 0)
+        → digit w j ≡ 0
     go zero e zero h ih = digit_zero w ∙ e
     go zero e (suc j) h ih = digit-suc w j ∙ ih j (omega arith)
     go (suc d) e j h ih = absurd (omega arith)

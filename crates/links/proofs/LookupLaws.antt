@@ -179,7 +179,8 @@ first_found test [] h = absurd (omega arith)
 first_found test (w ∷ ws) h = go (test w) refl h (first_found test ws)
   where
     go : (t : Bool) → test w ≡ t → pick t 0 (suc (first_place test ws)) < suc (length ws)
-        → (first_place test ws < length ws → test (get_or ws (first_place test ws) 0) ≡ true) → test (get_or (w ∷ ws) (pick t 0 (suc (first_place test ws))) 0) ≡ true
+        → (first_place test ws < length ws → test (get_or ws (first_place test ws) 0) ≡ true)
+        → test (get_or (w ∷ ws) (pick t 0 (suc (first_place test ws))) 0) ≡ true
     go true e h ih = e
     go false e h ih = ih (omega arith)
 

@@ -37,7 +37,8 @@ cut_over (y ∷ z ∷ zs) zero h = refl
 cut_over (y ∷ ys) (suc j) h = ap (λ (t : List ℕ). y ∷ t) (cut_over ys j (le_of_suc-le-suc h))
 
 -- one turn of `cut`
-pub cut_turn : (b : List ℕ) (count j : ℕ) → j + 1 < count → count ≤ length b → cut_at (j + 1) (take count (set b j (get_or b (j + 1) 0))) ≡ cut_at j (take count b)
+pub cut_turn : (b : List ℕ) (count j : ℕ) → j + 1 < count → count ≤ length b
+    → cut_at (j + 1) (take count (set b j (get_or b (j + 1) 0))) ≡ cut_at j (take count b)
 cut_turn b count j h k =
     let h₁ : j < count = omega arith in
     let h₂ : suc j < count = omega arith in

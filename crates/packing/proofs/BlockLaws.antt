@@ -160,7 +160,8 @@ module _ (g : ℕ) (gl : g ≤ 7) (a : Cells) (is : IsSet (2 ^ (g + 3)) a) where
 
   -- the same with its cells in the order of the tree
   module _ (r c v : ℕ) (rl : r < 2 ^ g) (vl : v < 2 ^ 64) (digits : (j : ℕ) → j < 64 → digit v j ≡ a (8 * r + row_at 3 j) (8 * c + column_at 3 j)) where
-    pub block_some : c < 2 ^ g → either (cells (g + 3) (blocks_to (r * 128 + c) a)) (shifted (64 * place g r c) v) ≡ cells (g + 3) (blocks_to (r * 128 + c + 1) a)
+    pub block_some : c < 2 ^ g
+        → either (cells (g + 3) (blocks_to (r * 128 + c) a)) (shifted (64 * place g r c) v) ≡ cells (g + 3) (blocks_to (r * 128 + c + 1) a)
     unfolding either
     block_some cg = fun_ext (λ z. go z (dec_lt z (4 ^ (g + 3))) (ℕ_discrete (z / 64) Z))
       where

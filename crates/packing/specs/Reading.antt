@@ -107,7 +107,8 @@ abbrev pub FitAll : ℕ → List ℕ → ℕ → ℕ → Type 0
 FitAll h l i k = (j : ℕ) → j < k → Fits h (get_or l (i + j) 0)
 
 abbrev pub ReadAll : ℕ → List ℕ → ℕ → List ℕ → ℕ → ℕ → Cells → Type 0
-ReadAll s ws h l i k a = (j : ℕ) → j < k → Reads s ws h (square_bit (get_or l (i + j) 0)) (square_row (get_or l (i + j) 0)) (square_column (get_or l (i + j) 0)) a
+ReadAll s ws h l i k a =
+    (j : ℕ) → j < k → Reads s ws h (square_bit (get_or l (i + j) 0)) (square_row (get_or l (i + j) 0)) (square_column (get_or l (i + j) 0)) a
 
 -- what the functions ask
 pub record ChildAsked (most : ℕ) (tree before : List ℕ) (p : ℕ) (Counts : Type 0) : Type 0 where

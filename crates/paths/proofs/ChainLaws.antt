@@ -1,5 +1,4 @@
 -- Laws of chains and words, and the theorem that a pair is in the relation of an expression exactly if it has a chain.
---   Inside g       the graph's links lie between records in use, which are below n, and their labels are letters
 --   inverse_inverse, backwards_append
 --                  a letter inverted twice; joined words backwards
 --   spell-append, chain_append, chain_split, chain_back, backwards_backwards, split_spelling

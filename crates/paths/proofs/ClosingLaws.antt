@@ -172,7 +172,8 @@ module _ (b : Book) (o : Sound b) where
         enough : (n : ℕ) → n ≤ b.n → ltb work (chain_work n) ≡ false
         enough n l = le-ltb work (chain_work n) (omega (arith, h))
 
-        causes_same : first_number (chain_causes shut (rank u x) (rank u y) v (renamed_reply (rank u) t) work room) ≡ first_number (chain_causes b x y v t work room)
+        causes_same : first_number (chain_causes shut (rank u x) (rank u y) v (renamed_reply (rank u) t) work room) ≡
+            first_number (chain_causes b x y v t work room)
         causes_same = unfold chain_causes in (
             rw (
               no_record_none (rank u b.n) (rank u x) (rank u y) (new_lt x p) (new_lt y q),
@@ -198,7 +199,8 @@ module _ (b : Book) (o : Sound b) (room : ℕ) (a : answer b (close room) ≡ 0)
         × (chain_answer (next b (close room)) (new_number b x) (new_number b y) v (renamed_reply (new_number b) t) work list
         ≡ renamed_outcome (new_number b) (chain_answer b x y v t work list))
     closing_chain v t work list h r = (
-      subst (λ (c : Book). ReplyTo (asked c) v (new_number b x) (new_number b y) (renamed_reply (new_number b) t)) (sym closed_is) (shut_reply b o x y p q v t r),
+      subst (λ (c : Book). ReplyTo (asked c) v (new_number b x) (new_number b y) (renamed_reply (new_number b) t)) (sym closed_is)
+          (shut_reply b o x y p q v t r),
       ap (λ (c : Book). chain_answer c (new_number b x) (new_number b y) v (renamed_reply (new_number b) t) work list) closed_is
           ∙ shut_chain_answer b o x y p q v t work list h,
     )

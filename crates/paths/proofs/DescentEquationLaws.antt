@@ -50,7 +50,8 @@ mutual
       ap (λ (x : Parse). then x (λ e r. more_alternatives_in f e r)) (same_parts f g l (omega arith) (omega arith)) ∙
       then_same _ _ (sound_parts g l) (λ e r q. let n = read_shorter parts l e r q in same_more_alternatives f g e r (omega arith) (omega arith))
 
-  same_more_alternatives : (f g : ℕ) (e : Expr) (l : List ℕ) → 4 * length l + 1 ≤ f → 4 * length l + 1 ≤ g → more_alternatives_in f e l ≡ more_alternatives_in g e l
+  same_more_alternatives : (f g : ℕ) (e : Expr) (l : List ℕ) → 4 * length l + 1 ≤ f → 4 * length l + 1 ≤ g
+      → more_alternatives_in f e l ≡ more_alternatives_in g e l
   same_more_alternatives zero g e l h h' = absurd (omega arith)
   same_more_alternatives (suc f) zero e l h h' = absurd (omega arith)
   same_more_alternatives (suc f) (suc g) e l h h' = if_same (eqb (first_byte l) bar) _ _ _ _
@@ -155,7 +156,8 @@ unfolding read_atom read_alternatives alternatives_in
 atom_group l b =
     let n = taken l (open_group - 1) b in
     if_true (eqb (first_byte l) open_group) _ _ b
-    ∙ ap (λ (x : Parse). then x read_close) (same_alternatives (4 * length l) (suc (suc (suc (suc (4 * length (rest l)))))) (rest l) (omega arith) (omega arith))
+    ∙ ap (λ (x : Parse). then x read_close)
+    (same_alternatives (4 * length l) (suc (suc (suc (suc (4 * length (rest l)))))) (rest l) (omega arith) (omega arith))
 
 pub atom_letter : (l : List ℕ) → eqb (first_byte l) open_group ≡ false → is_letter (first_byte l) ≡ true
     → read_atom l ≡ got (symbol (letter (first_byte l - letter_a))) (rest l)

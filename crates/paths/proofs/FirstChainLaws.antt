@@ -113,7 +113,8 @@ module _ (t : List Step → ℕ) where
   choose_best ss l zero (just us) e (some i p f) =
       some (there i) p (λ ts j q. ⊎_elim (λ r. absurd (let z : t ts ≡ 0 = ap t r ∙ e in omega arith)) (λ k. f ts k q) (in_front j refl))
   choose_best ss l (suc v) nothing e (none f) =
-      some here (omega arith) (λ ts i p. ⊎_elim (λ q. subst (λ (u : List Step). NotAfter (step_words ss) (step_words u)) (sym q) (not_after_self (step_words ss)))
+      some here (omega arith)
+      (λ ts i p. ⊎_elim (λ q. subst (λ (u : List Step). NotAfter (step_words ss) (step_words u)) (sym q) (not_after_self (step_words ss)))
       (λ j. absurd (f ts j p)) (in_front i refl))
   choose_best ss l (suc v) (just us) e (some i p f) = go (leads (step_words ss) (step_words us)) refl
     where

@@ -1,4 +1,11 @@
--- Laws about the definitions of Verdicts.
+-- The computed verdict on a text is the one right verdict.
+--   verdict_right  it is right
+--   verdict_long, verdict_none, verdict_more, verdict_letters, verdict_deep, verdict_accepted
+--                  which verdict it is, by what the descent finds
+--   verdict_only   no other verdict is right
+--   accepted_same  an accepted text has one expression
+--   accepted_is    an accepted text is within the limits
+-- Assumes nothing.
 use Rattle.std.specs.Prelude.{◌≡◌, refl, List, [], ◌∷◌, Bool, true, false, ℕ, ◌<◌, ◌≤◌, leb, length}
 use Rattle.std.proofs.Common.{sym, ap, ◌∙◌, inl, inr, ⊎_elim, append-nil, arith, leb-true, leb-false, le-leb}
 use Rattle.std.proofs.lemmas.Bool.{lt-leb}

@@ -1,4 +1,5 @@
--- What ChainLaws is about.
+-- A graph that has its links where chains may go.
+--   Inside g       the graph's links lie between records in use, which are below n, and their labels are letters
 use Rattle.std.proofs.Math.Path.{◌≡◌, refl, ap, subst}
 use Rattle.std.proofs.Common.{sym, ap₂, ◌∙◌, arith}
 use Rattle.std.specs.Prelude.{◌↔◌, Bool, true, false, not, ℕ, ◌<◌}

@@ -1,12 +1,8 @@
--- The verdict on a text, computed, and that it is the one right verdict.
+-- The verdict on a text, computed; that it is the one right verdict is shown in proofs/VerdictLaws.
+--   sized e, ended e r, found x
+--                  the verdict on an expression, by the bytes left after it, and on what is read
 --   verdict s      over 256 bytes first, then the grammar, then 63 letters and depth 8
---   verdict_right  it is right
---   verdict_long, verdict_none, verdict_more, verdict_letters, verdict_deep, verdict_accepted
---                  which verdict it is, by what the descent finds
---   verdict_only   no other verdict is right
---   accepted_same  an accepted text has one expression
 --   InLimits s e   s is the text of e, within the limits
---   accepted_is    an accepted text is such
 -- Assumes nothing.
 use Rattle.std.specs.Prelude.{◌≡◌, refl, List, [], ◌∷◌, Bool, true, false, ℕ, ◌<◌, ◌≤◌, leb, length}
 use Rattle.std.proofs.Common.{sym, ap, ◌∙◌, inl, inr, ⊎_elim, append-nil, arith, leb-true, leb-false, le-leb}

@@ -27,7 +27,8 @@ use Rattle.reader.specs.CodeLaws.{letters_code}
 use Rattle.reader.specs.declared.Spot.{Spot}
 use Rattle.reader.specs.declared.Parsed.{Parsed}
 use Rattle.reader.specs.declared.Parsed.TheVariants.{Got, Fault}
-use Rattle.reader.specs.Progress.{Found, Done, none, some, Infix, of_alternatives, of_parts, byte_of, number_of, join_of, read_of, whole_of, more_of, comes_next}
+use Rattle.reader.specs.Progress.{Found, Done, none, some, Infix, of_alternatives, of_parts, byte_of, number_of, join_of, read_of, whole_of, more_of}
+use Rattle.reader.specs.Progress.{comes_next}
 use Rattle.reader.specs.Progress.{spot_of, bytes_left, Asks, RoomToJoin, Joins, Since}
 use Rattle.reader.proofs.StepLaws.{rest_drop, there, sets_append, code_some, on, missed}
 
@@ -36,7 +37,8 @@ whole_is : (o : Infix) (l : List ℕ) → whole_of o l ≡ then (read_of o l) (m
 whole_is of_alternatives l = alternatives_is l
 whole_is of_parts l = parts_is l
 
-more_on : (o : Infix) (e : Expr) (l : List ℕ) → eqb (first_byte l) (byte_of o) ≡ true → more_of o e l ≡ then (read_of o (rest l)) (λ g r. more_of o (join_of o e g) r)
+more_on : (o : Infix) (e : Expr) (l : List ℕ) → eqb (first_byte l) (byte_of o) ≡ true
+    → more_of o e l ≡ then (read_of o (rest l)) (λ g r. more_of o (join_of o e g) r)
 more_on of_alternatives e l h = more_alternatives_bar e l h
 more_on of_parts e l h = more_parts_slash e l h
 

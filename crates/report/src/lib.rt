@@ -3,7 +3,8 @@
 #![tactic(auto)]
 
 ghost use Rattle.std.specs.Prelude.{[], ◌∷◌, ◌+◌, ◌*◌, ◌≤◌, ◌<◌, length, ◌≡◌};
-ghost use Rattle.report.specs.Report.{decimal, counted, pair_line, step_line, label_letter, sense_sign, ok_text, none_text, refused_text, pairs_text, chain_text};
+ghost use Rattle.report.specs.Report.{decimal, counted, pair_line, step_line, label_letter, sense_sign, ok_text, none_text, refused_text, pairs_text};
+ghost use Rattle.report.specs.Report.{chain_text};
 ghost use Rattle.report.specs.Report.{answer_text, total_text};
 ghost use Rattle.answers.specs.Written.{Wrote};
 

@@ -135,7 +135,8 @@ module _ (m : ℕ) where
     labelled_next =
         ap (λ (k : ℕ). labelled m (take k ws)) (add-one i) ∙ ap (labelled m) (take-suc ws i 0 l) ∙ labelled_last (take i ws) (get_or ws i 0)
 
-    letters-in : eqb (digit m (get_or ws i 0 / 1048576)) 1 ≡ true → letters_of m (take i ws) ++ (link_pair (get_or ws i 0) ∷ []) ≡ letters_of m (take (i + 1) ws)
+    letters-in : eqb (digit m (get_or ws i 0 / 1048576)) 1 ≡ true
+        → letters_of m (take i ws) ++ (link_pair (get_or ws i 0) ∷ []) ≡ letters_of m (take (i + 1) ws)
     letters-in t =
         sym (ap (map link_pair) (labelled_next ∙ ap (λ (b : Bool). labelled m (take i ws) ++ pick b (get_or ws i 0 ∷ []) []) t)
         ∙ map_last (labelled m (take i ws)) (get_or ws i 0))
@@ -174,7 +175,8 @@ module _ (x : Cells) (ps qs : List ℕ) (v : ℕ) (b : Bits (flat x)) where
 -- a word more, forward and then against
 module _ (x : Cells) (ws : List ℕ) (i f a : ℕ) (l : i < length ws) (b : Bits (flat x)) where
   pub crossed_forward : (qs : List ℕ) → eqb (digit f (get_or ws i 0 / 1048576)) 1 ≡ true
-      → put (link_pair (get_or ws i 0)) 1 (flat (union x (crossing (letters_of f (take i ws)) qs))) ≡ flat (union x (crossing (letters_of f (take (i + 1) ws)) qs))
+      → put (link_pair (get_or ws i 0)) 1 (flat (union x (crossing (letters_of f (take i ws)) qs))) ≡
+      flat (union x (crossing (letters_of f (take (i + 1) ws)) qs))
   crossed_forward qs t =
       forward_more x (letters_of f (take i ws)) qs (link_pair (get_or ws i 0)) b ∙ ap (λ (ps : List ℕ). flat (union x (crossing ps qs))) (letters-in f ws i l t)
 

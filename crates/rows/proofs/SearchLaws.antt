@@ -103,7 +103,8 @@ module _ (a b : List ℕ) (i j : ℕ) where
       rw e (meets_in s d (omega (arith, trailing_le 64 column)) ∙ digit_and (get_or a (i * 16 + s) 0) column d ∙ rw z (omega arith))
 
   -- a record of row i: as row j has it
-  pub meets_record : (s k : ℕ) → k < 64 → digit (get_or a (i * 16 + s) 0) k ≡ 1 → meets (bit_at a) (bit_at b) i j (s * 64 + k) ≡ digit (get_or b (j * 16 + s) 0) k
+  pub meets_record : (s k : ℕ) → k < 64 → digit (get_or a (i * 16 + s) 0) k ≡ 1
+      → meets (bit_at a) (bit_at b) i j (s * 64 + k) ≡ digit (get_or b (j * 16 + s) 0) k
   meets_record s k h e =
       meets_in s k h ∙ digit_and (get_or a (i * 16 + s) 0) (get_or b (j * 16 + s) 0) k ∙ rw e (omega (arith, digit_lt (get_or b (j * 16 + s) 0) k))
 
@@ -204,7 +205,8 @@ square_inside v s l h n = go (dec_lt s 16)
 module _ (a b : List ℕ) (i j v : ℕ) (g : Common (bit_at a) (bit_at b) i j v) where
   -- none before the first
   pub common_first : count_trailing_zeros 32 v < 16 → most (count_trailing_zeros 32 v * 64) (meets (bit_at a) (bit_at b) i j) ≡ 0
-  common_first f = most_none (count_trailing_zeros 32 v * 64) (meets (bit_at a) (bit_at b) i j) (λ k l. g k (omega arith) (trailing_clear 32 v (k / 64) (omega arith)))
+  common_first f = most_none (count_trailing_zeros 32 v * 64) (meets (bit_at a) (bit_at b) i j)
+      (λ k l. g k (omega arith) (trailing_clear 32 v (k / 64) (omega arith)))
 
   -- none after the last
   pub common_last : (s : ℕ) → s ≤ 16 → v / 2 ^ s ≡ 0 → most (s * 64) (meets (bit_at a) (bit_at b) i j) ≡ 0 → served (bit_at a) (bit_at b) i j ≡ 0

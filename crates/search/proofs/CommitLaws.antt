@@ -37,7 +37,8 @@ commit_zero w s nx mark n z =
 pub record Committing (w seen nx : List ℕ) (mark : ℕ) (list : List ℕ) (i : ℕ) (w' seen' nx' records masks : List ℕ) : Type 0 where
   pub hit : (h q : ℕ) → h < i → q < 64 → On (digit (get_or nx (get_or list h 0) 0) q) → number_at w' (get_or list h 0) q ≡ mark
   pub miss : (r q : ℕ) → q < 64 → digit (get_or nx r 0) q ≡ 0 → number_at w' r q ≡ number_at w r q
-  pub seen_in : (h q : ℕ) → h < i → digit (get_or seen' (get_or list h 0) 0) q ≡ max (digit (get_or seen (get_or list h 0) 0) q) (digit (get_or nx (get_or list h 0) 0) q)
+  pub seen_in : (h q : ℕ) → h < i
+      → digit (get_or seen' (get_or list h 0) 0) q ≡ max (digit (get_or seen (get_or list h 0) 0) q) (digit (get_or nx (get_or list h 0) 0) q)
   pub seen_off : (r q : ℕ) → ((h : ℕ) → h < i → get_or list h 0 ≡ r → ⊥) → digit (get_or seen' r 0) q ≡ digit (get_or seen r 0) q
   pub left : (r : ℕ) → ((h : ℕ) → h < i → get_or list h 0 ≡ r → ⊥) → get_or nx' r 0 ≡ get_or nx r 0
   pub gone : (h : ℕ) → h < i → get_or nx' (get_or list h 0) 0 ≡ 0

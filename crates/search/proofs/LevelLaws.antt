@@ -63,7 +63,8 @@ unfolding ones_below
 ones_less f g zero j h l s = absurd (omega arith)
 ones_less f g (suc k) j h l s = go (which j k) (ones_less f g k j (λ i m. h i (omega arith))) (ones_most f g k (λ i m. h i (omega arith))) (h k (omega arith))
   where
-    go : Which j k → (j < k → f j < g j → ones_below f k < ones_below g k) → ones_below f k ≤ ones_below g k → f k ≤ g k → ones_below f k + f k < ones_below g k + g k
+    go : Which j k → (j < k → f j < g j → ones_below f k < ones_below g k) → ones_below f k ≤ ones_below g k → f k ≤ g k
+        → ones_below f k + f k < ones_below g k + g k
     go (less m) ih a b = let z = ih m s in omega arith
     go (same m) ih a b = let z : f k < g k = rw m at s in omega arith
     go (more m) ih a b = absurd (omega arith)
@@ -103,7 +104,8 @@ module _ {g : Graph} {M : Automaton} {fs ps es : List ℕ} {f n : ℕ} {cs : Lis
       go (no h) o = absurd (none_on q (rw (get_or-eq_default ps 0 (let l = S.states in let z : length ps ≤ q' = omega arith in z)) at o))
 
   -- the step of an arc
-  pub arc_moves : (i r q q' : ℕ) → i < k → arc_from cs i ≡ r → On (M.follow q q') → On (digit (get_or es (arc_letter cs i) 0) q') → Moves g M r q (arc_step cs i) q'
+  pub arc_moves : (i r q q' : ℕ) → i < k → arc_from cs i ≡ r → On (M.follow q q') → On (digit (get_or es (arc_letter cs i) 0) q')
+      → Moves g M r q (arc_step cs i) q'
   arc_moves i r q q' h e fo en = record {
     crosses = subst (λ (a : ℕ). g.present (crossing (arc_step cs i).spelt a (arc_to cs i)) ≡ true) e (S.drawn.sound i h);
     follow = fo;

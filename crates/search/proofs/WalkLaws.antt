@@ -78,7 +78,8 @@ module _ {g : Graph} {M : Automaton} {fs ps es : List ℕ} {f n : ℕ} {cs : Lis
       (F : Spread fs st 0 follows) (C : Chosen cs es w seen n r follows (suc m) k 0 word states) where
     -- a step that leads on is one of an arc that serves
     leads : (q q' : ℕ) (s : Step) → On (digit st q) → Moves g M r q s q' → Reach g M y m s.reached q'
-        → (j : ℕ) × (arc_step_word cs j ≡ step_word s) × (s.reached < 1024) × ((word < arc_step_word cs j) ⊎ ((word ≡ arc_step_word cs j) × On (digit states q')))
+        → (j : ℕ) × (arc_step_word cs j ≡ step_word s) × (s.reached < 1024) ×
+        ((word < arc_step_word cs j) ⊎ ((word ≡ arc_step_word cs j) × On (digit states q')))
     leads q q' s o v h =
         let a = G.at q o in
         let b = shut S r q q' s v in
@@ -115,7 +116,8 @@ module _ {g : Graph} {M : Automaton} {fs ps es : List ℕ} {f n : ℕ} {cs : Lis
             → (step_word (step_of word) < step_word s) ⊎ ((step_of word ≡ s) × On (digit states q'))
         ls q q' s o v h = let z = leads q q' s o v h in go z.0 z.1 z.2 z.3
           where
-            go : (j : ℕ) → arc_step_word cs j ≡ step_word s → s.reached < 1024 → (word < arc_step_word cs j) ⊎ ((word ≡ arc_step_word cs j) × On (digit states q'))
+            go : (j : ℕ) → arc_step_word cs j ≡ step_word s → s.reached < 1024
+                → (word < arc_step_word cs j) ⊎ ((word ≡ arc_step_word cs j) × On (digit states q'))
                 → (step_word (step_of word) < step_word s) ⊎ ((step_of word ≡ s) × On (digit states q'))
             go j e b (inl h) = inl (let z = word_of word in omega arith)
             go j e b (inr h) = inr (ap step_of (h.0 ∙ e) ∙ step-of s b, h.1)

@@ -28,7 +28,8 @@ use Rattle.book.specs.Basics.{bit}
 use Rattle.book.specs.Causes.{labels}
 use Rattle.k2.specs.Bits.{digit}
 use Rattle.k2.specs.DigitLaws.{digit_lt, digit_zero, digit_none, digit_or, digit_pow, digit_big}
-use Rattle.paths.specs.Expressions.{Letter, Symbol, letter, none_of, stands_for, Expr, symbol, group, inverse, star, plus, optional as optional-part, alternative}
+use Rattle.paths.specs.Expressions.{Letter, Symbol, letter, none_of, stands_for, Expr, symbol, group, inverse, star, plus, optional as optional-part}
+use Rattle.paths.specs.Expressions.{alternative}
 use Rattle.paths.specs.Expressions.{sequence, letters}
 use Rattle.paths.specs.Grammar.{Rule, alternatives, Is, one_alternative, more_alternatives, one_part, more_parts, plain, inverted, bare, with_star, with_plus}
 use Rattle.paths.specs.Grammar.{with_optional, is-letter, is_negated, is_set, is_group}

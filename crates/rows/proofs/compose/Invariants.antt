@@ -14,7 +14,8 @@ use Rattle.rows.proofs.compose.Given as goal
 pub record Loop (a₀ columns : List ℕ) (n : ℕ) (a : List ℕ) (i : ℕ) : Type 0 where
   pub inside : i ≤ n
   pub as_long : length a ≡ length a₀
-  pub composed : (x y : Cells) → IsSet n x → IsSet n y → bit_at a₀ ≡ flat x → bit_at columns ≡ flat (transpose y) → bit_at a ≡ flat (rows_to i (product n x y) x)
+  pub composed : (x y : Cells) → IsSet n x → IsSet n y → bit_at a₀ ≡ flat x → bit_at columns ≡ flat (transpose y)
+      → bit_at a ≡ flat (rows_to i (product n x y) x)
 
 abbrev pub invariant-loop-i : goal.invariant-loop-i
 invariant-loop-i l = Loop l.initial.a l.columns l.n l.a l.i

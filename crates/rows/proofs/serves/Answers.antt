@@ -37,7 +37,8 @@ overflow_shr-column c =
     let l = c.loop-rest in
     let S = c.search in
     let a = c.args in
-    let N = record_next a.a.now a.b.now a.i a.j S.s l.k l.rest l.invariant.rest-is (c.type_inv.a (a.i * 16 + S.s)).fits (omega (arith, c.loop-rest-test.true)) in
+    let N = record_next a.a.now a.b.now a.i a.j S.s l.k l.rest l.invariant.rest-is (c.type_inv.a (a.i * 16 + S.s)).fits
+    (omega (arith, c.loop-rest-test.true)) in
     N.0
 
 pub loop-rest-preserved : goal.loop-rest-preserved
@@ -47,7 +48,8 @@ loop-rest-preserved c =
     let S = c.search in
     let a = c.args in
     let t = count_trailing_zeros 64 l.rest in
-    let N = record_next a.a.now a.b.now a.i a.j S.s l.k l.rest l.invariant.rest-is (c.type_inv.a (a.i * 16 + S.s)).fits (omega (arith, c.loop-rest-test.true)) in
+    let N = record_next a.a.now a.b.now a.i a.j S.s l.k l.rest l.invariant.rest-is (c.type_inv.a (a.i * 16 + S.s)).fits
+    (omega (arith, c.loop-rest-test.true)) in
     let e : S.s * 64 + (l.k + t + 1) ≡ S.s * 64 + (l.k + t) + 1 = omega arith in
     let d : S.s * 64 + l.k + t ≡ S.s * 64 + (l.k + t) = omega arith in
     record {
@@ -95,7 +97,9 @@ returns-then-column-k-eq1 c =
     let S = c.search in
     let l = c.loop-rest in
     let a = c.args in
-    let N = record_next a.a.now a.b.now a.i a.j S.s l.k l.rest l.invariant.rest-is (c.type_inv.a (a.i * 16 + S.s)).fits (omega (arith, c.loop-rest-test.true)) in
+    let N = record_next a.a.now a.b.now a.i a.j S.s l.k l.rest l.invariant.rest-is (c.type_inv.a (a.i * 16 + S.s)).fits
+    (omega (arith, c.loop-rest-test.true)) in
     let k = l.k + count_trailing_zeros 64 l.rest in
-    λ g. sym (most_hit 1024 _ (S.s * 64 + k) (meets_bits a.a.now a.b.now a.i a.j) (omega (arith, square_inside a.common S.s (omega arith) S.invariant.inside c.search-test.true, N.0))
+    λ g. sym (most_hit 1024 _ (S.s * 64 + k) (meets_bits a.a.now a.b.now a.i a.j)
+    (omega (arith, square_inside a.common S.s (omega arith) S.invariant.inside c.search-test.true, N.0))
     (meets_record a.a.now a.b.now a.i a.j S.s k N.0 N.1 ∙ c.if-column-k-eq1.true))

@@ -25,7 +25,8 @@ loop-i-preserved c =
         as_long = rw w.rows-is (w.set_bit.auto.words ∙ l.invariant.as_long);
         put = λ x e.
             let b : Bits (flat x) = λ k. rw (← e) (bit_lt a.rows.now k) in
-            rw w.rows-is (w.set_bit.ensures ∙ rw (l.invariant.put x e) (diagonal_more f (bit_lt a.records.now) x l.i (omega arith) b (sym r ∙ w.if-bit-eq1.true)));
+            rw w.rows-is (w.set_bit.ensures ∙
+            rw (l.invariant.put x e) (diagonal_more f (bit_lt a.records.now) x l.i (omega arith) b (sym r ∙ w.if-bit-eq1.true)));
       }
       | else-bit-eq1 w ↦ record {
         inside = omega arith;

@@ -22,7 +22,8 @@ returns-then-out-t c =
     let b = c.args in
     let f = bit_at b.rows.now in
     let r = places_first f i.p (b.n * 1024) (omega (arith, i.invariant.inside, l.invariant.inside)) in
-    let h : length (places f i.p) ≡ length b.out.now = omega (arith, i.invariant.t_most, i.invariant.as_long, i.invariant.t_is, l.invariant.as_long, c.if-out-t.true) in
+    let h : length (places f i.p) ≡ length b.out.now =
+    omega (arith, i.invariant.t_most, i.invariant.as_long, i.invariant.t_is, l.invariant.as_long, c.if-out-t.true) in
     wrote_full (places f i.p) (places f (b.n * 1024)) b.out.now i.out r.0 h r.1
     (wrote_on (places f (l.q * 64)) (places f i.p) b.out.now l.out i.out
     (places_longer f (l.q * 64) i.p i.invariant.p_least) l.invariant.wrote i.invariant.wrote)

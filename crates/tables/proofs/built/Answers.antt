@@ -18,7 +18,9 @@ loop-i-init c =
 pub inverted-requires : goal.inverted-requires
 inverted-requires c =
     let p = c.requires in
-    let z = alone_top (at-end (rw (drop_of_length-le c.args.numbers.now (let z : length c.args.numbers.now ≤ c.loop-i.i = omega arith in z)) at (c.loop-i.invariant.next_of p.2.0 p.2.1 p.2.2 p.2.3))) in (
+    let z = alone_top (at-end
+    (rw (drop_of_length-le c.args.numbers.now (let z : length c.args.numbers.now ≤ c.loop-i.i = omega arith in z)) at
+    (c.loop-i.invariant.next_of p.2.0 p.2.1 p.2.2 p.2.3))) in (
       record { follow_long = c.loop-i.invariant.follow_long; pred_long = c.loop-i.invariant.pred_long; some = z.0; few = z.1 },
       c.loop-i.invariant.enter_long,
     )
@@ -26,8 +28,13 @@ inverted-requires c =
 pub returns-then-against : goal.returns-then-against
 unfolding value
 returns-then-against c =
-    λ text e L q. let A = at-end (rw (drop_of_length-le c.args.numbers.now (let z : length c.args.numbers.now ≤ c.loop-i.i = omega arith in z)) at (c.loop-i.invariant.next_of text e L q)) in
+    λ text e L q. let A =
+    at-end (rw (drop_of_length-le c.args.numbers.now (let z : length c.args.numbers.now ≤ c.loop-i.i = omega arith in z)) at
+    (c.loop-i.invariant.next_of text e L q)) in
     rw c.if-against.true (A.0, c.inverted.ensures _ _ _ A.1)
 
 pub returns : goal.returns
-returns c = λ text e L q. rw c.if-against.false (at-end (rw (drop_of_length-le c.args.numbers.now (let z : length c.args.numbers.now ≤ c.loop-i.i = omega arith in z)) at (c.loop-i.invariant.next_of text e L q)))
+returns c = λ text e L q.
+    rw c.if-against.false
+    (at-end (rw (drop_of_length-le c.args.numbers.now (let z : length c.args.numbers.now ≤ c.loop-i.i = omega arith in z)) at
+    (c.loop-i.invariant.next_of text e L q)))

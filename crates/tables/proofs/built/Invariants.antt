@@ -13,7 +13,8 @@ invariant-loop-i l =
       follow_long : length l.follow ≡ 64;
       pred_long : length l.pred ≡ 64;
       enter_long : length l.enter ≡ 64;
-      next_of : (text : List ℕ) (e : Expr) → InLimits text e → l.numbers ≡ code e → Next (build l.follow l.pred l.enter l.s) (drop l.i l.numbers) (value parts e);
+      next_of : (text : List ℕ) (e : Expr) → InLimits text e → l.numbers ≡ code e
+          → Next (build l.follow l.pred l.enter l.s) (drop l.i l.numbers) (value parts e);
     }
 
 abbrev pub decreases-loop-i : goal.decreases-loop-i

@@ -50,7 +50,8 @@ pub returns-in-Plus : goal.returns-in-Plus
 returns-in-Plus c = λ k v N. after_one N (sym c.item_of-item.ensures ∙ c.in-Plus.is) repeats (λ m x st H. c.repeated-in-Plus.ensures _ m x st H)
 
 pub returns-in-Optional : goal.returns-in-Optional
-returns-in-Optional c = λ k v N. after_one N (sym c.item_of-item.ensures ∙ c.in-Optional.is) allows_none (λ m x st H. c.maybe-in-Optional.ensures _ _ _ m x st H)
+returns-in-Optional c =
+    λ k v N. after_one N (sym c.item_of-item.ensures ∙ c.in-Optional.is) allows_none (λ m x st H. c.maybe-in-Optional.ensures _ _ _ m x st H)
 
 pub returns-in-Alternative : goal.returns-in-Alternative
 returns-in-Alternative c = λ k v N. after_two N (sym c.item_of-item.ensures ∙ c.in-Alternative.is) unites (λ m x y st H. c.either.ensures _ _ _ m x y st H)

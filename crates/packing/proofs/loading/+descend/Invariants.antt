@@ -14,7 +14,8 @@ use Rattle.packing.proofs.loading.+descend.Given as goal
 
 abbrev pub invariant-loop-i : goal.invariant-loop-i
 invariant-loop-i l = (l.i ≤ l.m) × (length l.rows ≡ length l.initial.rows)
-    × ((a t : Cells) → bit_at l.initial.rows ≡ flat a → ReadAll l.sense l.tree (l.h - 1) l.next 0 l.m t → bit_at l.rows ≡ flat (union a (squares_to l.i (l.h - 1) l.next 0 t)))
+    × ((a t : Cells) → bit_at l.initial.rows ≡ flat a → ReadAll l.sense l.tree (l.h - 1) l.next 0 l.m t
+    → bit_at l.rows ≡ flat (union a (squares_to l.i (l.h - 1) l.next 0 t)))
 
 abbrev pub decreases-loop-i : goal.decreases-loop-i
 decreases-loop-i l = l.m - l.i

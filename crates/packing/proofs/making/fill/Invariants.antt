@@ -30,7 +30,8 @@ decreases-loop-c l = 128 - l.c
 pub record Loop (rows : List ℕ) (g base : ℕ) (heap₀ : List ℕ) (side : ℕ) (heap : List ℕ) (r : ℕ) : Type 0 where
   pub inside : r ≤ side
   pub as_long : length heap ≡ length heap₀
-  pub filled : (a : Cells) → IsSet (2 ^ (g + 3)) a → bit_at rows ≡ flat a → bit_at heap₀ ≡ none → bit_at heap ≡ raised base (cells (g + 3) (blocks_to (r * 128) a))
+  pub filled : (a : Cells) → IsSet (2 ^ (g + 3)) a → bit_at rows ≡ flat a → bit_at heap₀ ≡ none
+      → bit_at heap ≡ raised base (cells (g + 3) (blocks_to (r * 128) a))
 
 abbrev pub invariant-loop-r : goal.invariant-loop-r
 invariant-loop-r l = Loop l.rows l.g l.base l.initial.heap l.side l.heap l.r

@@ -16,7 +16,8 @@ loop-q-preserved c =
         inside = omega arith;
         as_long = rw w.heap-is (w.set_bit.auto.words ∙ l.invariant.as_long);
         lifted = λ b f h e.
-            rw w.heap-is w.set_bit.ensures ∙ lift_some b f h (bit_at l.heap) l.q (omega arith) (l.invariant.lifted b f h e) (λ z. w.if-four-ne0.true (four ∙ z));
+            rw w.heap-is w.set_bit.ensures ∙
+            lift_some b f h (bit_at l.heap) l.q (omega arith) (l.invariant.lifted b f h e) (λ z. w.if-four-ne0.true (four ∙ z));
       }
       | else-four-ne0 w ↦ record {
         inside = omega arith;

@@ -38,6 +38,7 @@ overflow_add-result c =
 pub returns : goal.returns
 returns c =
     let q : (q : ℕ) × (q < 64) × On (digit c.args.entry.states q) = some_digit 64 c.args.entry.states (omega arith) (omega arith) in (
-      listed_new c.requires.listed c.args.entry.at c.args.entry.states c.requires.at_below (omega arith) q c.requires.next_long c.if-old-ne0.false c.requires.list_long,
+      listed_new c.requires.listed c.args.entry.at c.args.entry.states c.requires.at_below
+          (omega arith) q c.requires.next_long c.if-old-ne0.false c.requires.list_long,
       added_more _ _ _ _ (omega arith) (omega arith),
     )

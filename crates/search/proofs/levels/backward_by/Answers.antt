@@ -1,5 +1,6 @@
 -- The levels are made one after another (`level_start`, `level_next`), until the start is seen (`sought`) or a level is empty (`level_empty`).
-use Rattle.std.proofs.Common.{◌≡◌, ◌∙◌, subst, List, ℕ, suc, ◌+◌, ◌*◌, ◌-◌, length, get_or, set, take, arith, add-one, length-set, length-take-le, get_or-set_same, get_or-set_other}
+use Rattle.std.proofs.Common.{◌≡◌, ◌∙◌, subst, List, ℕ, suc, ◌+◌, ◌*◌, ◌-◌, length, get_or, set, take, arith, add-one, length-set, length-take-le}
+use Rattle.std.proofs.Common.{get_or-set_same, get_or-set_other}
 use Rattle.std.proofs.Math.ListN.{length-replicate}
 use Rattle.k2.specs.DigitLaws.{digit_zero}
 use Rattle.k2.specs.BitLaws.{zeros_at}
