@@ -1,4 +1,6 @@
 // Chain questions.
+#![tactic(auto)]
+
 ghost use Rattle.std.specs.Prelude.{◌≡◌, List, ℕ, ◌≤◌, length};
 ghost use Rattle.book.specs.Causes.{max_records, max_links};
 ghost use Rattle.book.specs.Book.{Book};
@@ -17,7 +19,7 @@ use register::Register;
 use search::{Ends, Found};
 
 // The number of steps, which the list has; no chain of any length; or the number of a cause.
-#[derive(Drop)]
+#[derive(Clone, Copy)]
 pub enum ChainAnswer {
     Chain(usize),
     NoChain,

@@ -166,7 +166,7 @@ fn square_number(b: usize, x: usize, y: usize) -> usize
 }
 
 // A square as a node of the tree: the bit at which its four bits begin, its row and its column.
-#[derive(Drop)]
+#[derive(Clone, Copy)]
 struct Node {
     bit: usize,
     row: usize,
@@ -174,7 +174,7 @@ struct Node {
 }
 
 // Some squares of a list: how many, from which place on.
-#[derive(Drop)]
+#[derive(Clone, Copy)]
 struct Part {
     from: usize,
     count: usize,
@@ -306,7 +306,7 @@ fn descend(
 }
 
 // How a tree is read: as it is, or with each pair exchanged.
-#[derive(Drop)]
+#[derive(Clone, Copy)]
 pub enum Sense {
     Plain,
     Inverted,

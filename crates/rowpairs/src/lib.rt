@@ -1,6 +1,8 @@
 // Pair questions by rows of bits: an expression's code is run on a stack of relations, which lie one after another in the lent work, each as n rows
 // of bits, 64 columns to a word, with a mask of each row's words in use (crate `grid`). running.rt runs a code, listing.rt lists the pairs of what is left,
 // leaving.rt leaves the relation where it was made, for those who read it there, and spreads it to rows of 1,024 bits.
+#![tactic(auto)]
+
 mod leaving;
 mod listing;
 mod running;

@@ -40,6 +40,7 @@ copied_two xs ys ws ws' ws'' e f =
 -- ---- pairs
 -- by places
 in_at : (ps : List ℕ) (w : ℕ) → In w ps → (i : ℕ) × (i < length ps) × (get_or ps i 0 ≡ w)
+in_at [] w x' = elim x' [ ]
 in_at (p ∷ ps) w here = (0, omega arith, refl)
 in_at (p ∷ ps) w (there h) = let r = in_at ps w h in (suc r.0, omega (arith, r.1), r.2)
 

@@ -122,7 +122,8 @@ module _ (n : ℕ) (ps : List ℕ) (ts : List (List ℕ)) (k : ℕ) where
   unfolding lent_causes
   lent_off e = first_off sized (not (all_below n ps)) (not (all_formed n ts)) short e
 
-  pub lent_met : first_number (lent_causes n ps ts k) ≡ 0 → (1 ≤ n) × (n ≤ max_records) × (all_below n ps ≡ true) × (all_formed n ts ≡ true) × (32 * tree_unit n ≤ k)
+  pub lent_met : first_number (lent_causes n ps ts k) ≡ 0
+      → (1 ≤ n) × (n ≤ max_records) × (all_below n ps ≡ true) × (all_formed n ts ≡ true) × (32 * tree_unit n ≤ k)
   lent_met e =
       let o = lent_off e in
       let s = or_neither (ltb n 1) (ltb max_records n) o.0 in (
@@ -138,7 +139,8 @@ module _ (n : ℕ) (ps : List ℕ) (ts : List (List ℕ)) (k : ℕ) where
     unfolding lent_causes
     tree_refused e = first_on sized (not (all_below n ps)) (not (all_formed n ts)) short (ltb room (length xs)) e
 
-    pub tree_accepted : first_number (lent_causes n ps ts k) ≡ 0 → first_number (tree_causes n ps ts k xs room) ≡ pick (ltb room (length xs)) (number short_list) 0
+    pub tree_accepted : first_number (lent_causes n ps ts k) ≡ 0
+        → first_number (tree_causes n ps ts k xs room) ≡ pick (ltb room (length xs)) (number short_list) 0
     unfolding lent_causes first_number
     tree_accepted e = let o = lent_off e in rw (o.0, o.1, o.2, o.3) refl
 

@@ -63,7 +63,8 @@ unfolding lent_causes all_formed
 same_causes n k t u t' u' e f = rw (e, f) refl
 
 -- ---- two calls with the same causes and the same answer
-same_answer : {n k : ℕ} {ps xs ys before after after' : List ℕ} {ts us : List (List ℕ)} {r r' : Counted} → lent_causes n ps ts k ≡ lent_causes n ps us k → xs ≡ ys
+same_answer : {n k : ℕ} {ps xs ys before after after' : List ℕ} {ts us : List (List ℕ)} {r r' : Counted} → lent_causes n ps ts k ≡ lent_causes n ps us k
+    → xs ≡ ys
     → Answered n ps ts k xs before after r → Answered n ps us k ys before after' r' → (r ≡ r') × (after ≡ after')
 same_answer {n} {k} {ps} {xs} {ys} {before} {ts = ts} {us} e f A B =
     let c : first_number (tree_causes n ps ts k xs (length before)) ≡ first_number (tree_causes n ps us k ys (length before)) = rw (e, f) refl in (

@@ -13,7 +13,7 @@ ghost use Rattle.tree.specs.Inner.{nothing, flipped, valued, LinksBelow, Apart, 
 use packing::Sense;
 
 // What is done with the sets of two operands; the last three take the union of both, so that an operation on one operand has none as its first.
-#[derive(Drop)]
+#[derive(Clone, Copy)]
 pub enum Operation {
     Union,
     Intersection,
@@ -26,7 +26,7 @@ pub enum Operation {
 
 // An operand: the words of its tree, the sense in which it is read, and the letters whose links are beside the tree, as two sets of labels: those crossed
 // forward, and those crossed against their sense.
-#[derive(Drop)]
+#[derive(Clone, Copy)]
 pub struct Operand {
     pub size: usize,
     pub sense: Sense,
@@ -35,7 +35,7 @@ pub struct Operand {
 }
 
 // An operation with its operands; the first one's tree lies before the second's.
-#[derive(Drop)]
+#[derive(Clone, Copy)]
 pub struct Term {
     pub operation: Operation,
     pub first: Operand,
