@@ -58,4 +58,5 @@ loop-label-preserved c =
     ]
 
 pub returns : goal.returns
-returns c = put_ends c.args.n c.args.w c.args.links.now c.args.forward c.args.against c.args.cells.now c.args.masks.now c.loop-label.label c.loop-label.cells c.loop-label.masks (omega arith) c.loop-label.invariant.put_below
+returns c = put_ends c.args.n c.args.w c.args.links.now c.args.forward c.args.against c.args.cells.now c.args.masks.now c.loop-label.label
+    c.loop-label.cells c.loop-label.masks (omega arith) c.loop-label.invariant.put_below
