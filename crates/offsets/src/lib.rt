@@ -1,5 +1,7 @@
 // Offsets known within limits. A tie says that one record begins at least so many and at most so many rings after another; `offsets` gives the narrowest
 // limits of how many rings each record begins after a base, over every placing of whole years that meets all ties, or says that none does.
+#![tactic(auto)]
+
 ghost use Rattle.std.specs.Prelude.{◌≡◌, false, ◌+◌, ◌*◌, ◌≤◌, ◌<◌, ◌^◌, length, drop};
 ghost use Rattle.std.specs.Int.Signed.{mag};
 ghost use Rattle.offsets.specs.Relax as spec;
@@ -29,7 +31,7 @@ const PAST_NARROW: i64 = 2147483648;
 
 // A tie: the second record begins at least `least` and at most `most` rings after the first.
 #[repr(C)]
-#[derive(Drop)]
+#[derive(Clone, Copy)]
 pub struct Tie {
     pub first: u16,
     pub second: u16,

@@ -30,7 +30,7 @@ use Rattle.pages.specs.declared.reading.Judgement.{Judgement}
 use Rattle.pages.specs.declared.reading.Judgement.TheVariants.{Listing, Broken}
 
 -- ---- one line
-pub rising_small : {low next : ℕ} (ws : List ℕ) (n : ℕ) → n ≤ length ws
+pub rising_small : {low : ℕ} (ws : List ℕ) (n : ℕ) {next : ℕ} → n ≤ length ws
     → Rising low (take n ws) next → next ≤ pair_words → (i : ℕ) → i < n → get_or ws i 0 < pair_words
 rising_small ws n h (up W) l i k =
     let e = length-take-le n ws h in
@@ -126,7 +126,8 @@ module _ (text bytes : List ℕ) where
       let e = joined_next (words_at bytes) i in
       (ap length e ∙ length-append (words_before bytes i) (words_at bytes i), ap (after 0) e ∙ after-append 0 (words_before bytes i) (words_at bytes i))
 
-  pub stand_next : (n i : ℕ) → ((k : ℕ) → k < i → Stands text bytes k n (after 0 (words_before bytes k))) → Stands text bytes i n (after 0 (words_before bytes i))
+  pub stand_next : (n i : ℕ) → ((k : ℕ) → k < i → Stands text bytes k n (after 0 (words_before bytes k)))
+      → Stands text bytes i n (after 0 (words_before bytes i))
       → (k : ℕ) → k < i + 1 → Stands text bytes k n (after 0 (words_before bytes k))
   stand_next n i f S k h = go (dec_lt k i)
     where

@@ -54,7 +54,8 @@ gathered_six f p {words} {q} {count} n G = go (dec_lt count 6)
         (ap (take 6) G.found ∙ take_at (take count words) rest 6 z, ap (drop 6) G.found ∙ drop_at (take count words) rest 6 z)
 
 module _ (f : ℕ → ℕ) (text : List ℕ) (i p : ℕ) {before after : List ℕ} where
-  pub laid_head : {r : ℕ} → i % 60 ≡ 0 → i ≤ most_lines → p ≤ pair_words → Wrote (73 * i) (head_line text (i / 60)) before after r → Laid f text i p before after p
+  pub laid_head : {r : ℕ} → i % 60 ≡ 0 → i ≤ most_lines → p ≤ pair_words → Wrote (73 * i) (head_line text (i / 60)) before after r
+      → Laid f text i p before after p
   unfolding line_of
   laid_head {r} e h l w =
       let z : r ≡ 73 * i + 73 = w.place ∙ ap (λ (n : ℕ). 73 * i + n) (length_head_line text (i / 60) (omega arith)) in

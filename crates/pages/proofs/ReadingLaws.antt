@@ -54,7 +54,8 @@ module _ (bytes : List ℕ) (at k : ℕ) (h : k < 6) where
       let e : at + 12 * k + 12 ≡ at + 12 * (k + 1) = omega arith in
       ap (λ (f : ℕ). cell_words f (drop (at + 12 * k) bytes)) s
       ∙ rw (ne_eqb (get_or (drop (at + 12 * k) bytes) 4 0) space (λ z. n (sym mark ∙ z)))
-      (ap (λ (t : List ℕ). cell_word (drop (at + 12 * k) bytes) ∷ cell_words (6 - (k + 1)) t) (drop-drop 12 (at + 12 * k) bytes ∙ ap (λ (j : ℕ). drop j bytes) e))
+      (ap (λ (t : List ℕ). cell_word (drop (at + 12 * k) bytes) ∷ cell_words (6 - (k + 1)) t)
+      (drop-drop 12 (at + 12 * k) bytes ∙ ap (λ (j : ℕ). drop j bytes) e))
 
 -- ---- ascending words
 module _ (words : List ℕ) (low i : ℕ) where

@@ -16,7 +16,8 @@
 -- Assumes nothing.
 use Rattle.std.specs.Prelude.{◌≡◌, take, drop}
 use Rattle.std.proofs.Math.Path.{refl, sym, ap, ap₂}
-use Rattle.std.proofs.Common.{◌∙◌, add-zero, add-suc, add-one, eq-eqb, ne_eqb, length-append, drop_of_length-le, drop_at, take-add, take-take, drop-drop, get_or-take, get_or-drop}
+use Rattle.std.proofs.Common.{◌∙◌, add-zero, add-suc, add-one, eq-eqb, ne_eqb, length-append, drop_of_length-le, drop_at, take-add, take-take, drop-drop}
+use Rattle.std.proofs.Common.{get_or-take, get_or-drop}
 use mathlib.Core.List.{List, [], ◌∷◌, ◌++◌, append_assoc, append-nil}
 use Prim.Native.Nat.{ℕ, zero, suc, ◌+◌, ◌-◌, ◌*◌, ◌/◌, ◌%◌, ◌≤◌, ◌<◌, max, min}
 use Rattle.std.proofs.Math.Decide.{dec_lt, ℕ_discrete}

@@ -15,7 +15,8 @@ table =
       pages (bytes "a/^a") (pair_word 0 0 ∷ pair_word 0 2 ∷ pair_word 2 0 ∷ pair_word 2 2 ∷ []),
       "a/^a                                                                   1\n    0     0     0     2     2     0     2     2                         \n",
     ) ∷ (
-      pages (bytes "b+") (pair_word 0 1 ∷ pair_word 9 10 ∷ pair_word 99 100 ∷ pair_word 100 999 ∷ pair_word 1000 7 ∷ pair_word 1023 0 ∷ pair_word 1023 1023 ∷ []),
+      pages (bytes "b+") (pair_word 0 1 ∷ pair_word 9 10 ∷ pair_word 99 100 ∷ pair_word 100 999 ∷ pair_word 1000 7 ∷ pair_word 1023 0 ∷ pair_word 1023 1023 ∷
+          []),
       "b+                                                                     1\n    0     1     9    10    99   100   100   999  1000     7  1023     0 \n 1023  1023                                                             \n",
     ) ∷ []
 

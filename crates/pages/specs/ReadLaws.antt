@@ -254,6 +254,7 @@ listed_within {m} [] h r b = ends {m = m} {t = pair_words} h
 listed_within (w ∷ l) h (rises g r) b = goes g (listed_within l (omega (arith, (b w here).0)) r (λ v i. b v (there i)))
 
 within_pairs : {m w : ℕ} {l : List ℕ} → Within m l pair_words → In w l → (w / 1024 < 1024) × (w % 1024 < 1024)
+within_pairs {w = w} (ends {m = m} _) x7 = elim x7 [ ]
 within_pairs (goes g q) here = (omega (arith, within_length q), omega arith)
 within_pairs (goes g q) (there i) = within_pairs q i
 

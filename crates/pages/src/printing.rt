@@ -119,7 +119,7 @@ pub(crate) fn lines_of(pairs: usize) -> usize
 }
 
 // Where a search for the pairs of a line ended, and how many it found.
-#[derive(Drop)]
+#[derive(Clone, Copy)]
 struct LineEnd {
     place: usize,
     count: usize,

@@ -115,7 +115,7 @@ fn is_pair_line(words: &[u32], count: usize, pages: &[u8], at: usize) -> bool
 }
 
 // What a line was found to be: how many pairs are on it, and the number after them; a number past all pair words if the line does not stand.
-#[derive(Drop)]
+#[derive(Clone, Copy)]
 struct Checked {
     count: usize,
     next: u32,
@@ -166,7 +166,7 @@ fn check_line(text: &[u8], pages: &[u8], i: usize, lines: usize, low: u32) -> Ch
 }
 
 // What lent pages were found to be: the pages of the text and so many pairs, or of no list.
-#[derive(Drop)]
+#[derive(Clone, Copy)]
 enum Judgement {
     Listing(usize),
     Broken,

@@ -177,7 +177,8 @@ moved_lock ms rs os i m z s = record {
     go x h e (no l) = let q : x ≡ i = omega arith in at (new_of rs x) (ap (new_of rs) q)
 
     there' : (y : ℕ) (t : Bool) → eqb y (new_of rs i) ≡ t → (get_or (set os (new_of rs i) lock_mark) y free_mark ≡ free_mark)
-        ⊎ ((get_or (set os (new_of rs i) lock_mark) y free_mark ≡ lock_mark) × ((x : ℕ) × (x < i + 1) × (get_or ms x free_mark ≡ lock_mark) × (new_of rs x ≡ y)))
+        ⊎ ((get_or (set os (new_of rs i) lock_mark) y free_mark ≡ lock_mark) ×
+        ((x : ℕ) × (x < i + 1) × (get_or ms x free_mark ≡ lock_mark) × (new_of rs x ≡ y)))
     there' y true q = let e = eqb-true y (new_of rs i) q in inr (at y e, (i, omega arith, z, sym e))
     there' y false q =
         let e = away y (λ p. true≢false (sym (eq-eqb y (new_of rs i) p) ∙ q)) in

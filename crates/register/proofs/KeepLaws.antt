@@ -178,7 +178,8 @@ module _ (r : Register) (g : InRange r) (v : Marked r.marks) (l : AsLong r.links
       let l₁ : length w₁ ≡ length w₀ = ap length a' ∙ length_written links_at r.links w₀ (omega (arith, l₀, l.0)) in
       let l₂ : length w₂ ≡ length w₁ = ap length b.contents ∙ length_written 0 (numbers_of r) w₁ (omega (arith, l₀, l₁)) in
       let tail : drop links_at w₁ ≡ r.links ++ drop max_links (drop links_at w₀) =
-      ap (drop links_at) a ∙ drop_at (take links_at w₀) (r.links ++ drop max_links (drop links_at w₀)) links_at (length-take-le links_at w₀ (omega (arith, l₀))) in
+      ap (drop links_at) a ∙
+      drop_at (take links_at w₀) (r.links ++ drop max_links (drop links_at w₀)) links_at (length-take-le links_at w₀ (omega (arith, l₀))) in
       let e₂ : take ring_at w₂ ≡ numbers_of r ++ r.links =
       ap (take ring_at) b.contents ∙ take-append-add (numbers_of r) (drop links_at w₁) max_links
       ∙ ap (λ (t : List ℕ). numbers_of r ++ t) (ap (take max_links) tail ∙ take_at r.links (drop max_links (drop links_at w₀)) max_links l.0) in

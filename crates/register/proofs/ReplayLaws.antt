@@ -124,7 +124,8 @@ uncalled self l q =
 
 -- ---- one word more
 pub set_next : (told old : List ℕ) (i a : ℕ) → length told ≡ i → i < length old → set (told ++ drop i old) i a ≡ (told ++ (a ∷ [])) ++ drop (suc i) old
-set_next told old i a e h = rw (drop-cons old i 0 h) (set_at told (get_or old i 0) (drop (suc i) old) a i e ∙ sym (append_assoc told (a ∷ []) (drop (suc i) old)))
+set_next told old i a e h =
+    rw (drop-cons old i 0 h) (set_at told (get_or old i 0) (drop (suc i) old) a i e ∙ sym (append_assoc told (a ∷ []) (drop (suc i) old)))
 
 one_more : (ws : List ℕ) (i : ℕ) → i < length ws → take (i + 1) ws ≡ take i ws ++ (get_or ws i 0 ∷ [])
 one_more ws i h = rw (add-one, take-suc ws i 0 h)

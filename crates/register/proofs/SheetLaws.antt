@@ -20,9 +20,11 @@ use borrow.Author.Tests.{leb-false, eq-eqb, not-false}
 use Rattle.book.specs.Basics.{pick, bit, In, has, without}
 use Rattle.book.specs.Causes.{Cause, no_record, locked_end, already, missing, full, touched_record, withdrawn_record, number, first_number, max_records, labels}
 use Rattle.book.specs.Causes.{max_links}
-use Rattle.book.specs.Book.{Link, same_link, Sheet, Edit, add, remove, lock, unlock, withdraw, reinstate, present, is_locked, is_withdrawn, touched, total, causes}
+use Rattle.book.specs.Book.{Link, same_link, Sheet, Edit, add, remove, lock, unlock, withdraw, reinstate, present, is_locked, is_withdrawn, touched, total}
+use Rattle.book.specs.Book.{causes}
 use Rattle.book.specs.Book.{edit_answer, edited}
-use Rattle.book.proofs.SetLaws.{eqb_test, same_link_test, and_both, or_neither, has_in, in_has, has_without, without_self, without_other, length_without, or_else}
+use Rattle.book.proofs.SetLaws.{eqb_test, same_link_test, and_both, or_neither, has_in, in_has, has_without, without_self, without_other, length_without}
+use Rattle.book.proofs.SetLaws.{or_else}
 use Rattle.book.proofs.SetLaws.{without_absent}
 use Rattle.book.specs.Sheets.{Proper, Fit}
 use Rattle.book.proofs.BookLaws.{first-none, first_proper, edited_fit, fit_bare}

@@ -28,9 +28,9 @@ use Prim.Native.Nat.{ℕ, zero, suc, ◌+◌, ◌≤◌, ◌<◌}
 use native.Mathlib.Omega.{arith}
 use lib.Dec.{leb, eqb}
 use lib.ListN.{length, take, get_or, set}
-use borrow.Author.Tests.{not-true, not-false}
 use Rattle.book.specs.Basics.{pick, Rises, has}
-use Rattle.book.specs.Causes.{no_record, locked_end, already, missing, full, none_held, not_open, touched_record, withdrawn_record, first_number, number, Caused}
+use Rattle.book.specs.Causes.{no_record, locked_end, already, missing, full, none_held, not_open, touched_record, withdrawn_record, first_number, number}
+use Rattle.book.specs.Causes.{Caused}
 use Rattle.book.specs.Causes.{max_records, max_links, max_held}
 use Rattle.book.specs.Book.{Link, Sheet, Book, Edit, add, remove, lock, unlock, withdraw, reinstate, Call, edit, undo, edit_answer, edited, turned, undo_answer}
 use Rattle.book.specs.Book.{undone, fresh_answer, fresh, answer}
@@ -70,11 +70,11 @@ pub refused_done : {k : ℕ} → Refused k ≡ Done → ⊥
 refused_done e = done_refused (sym e)
 
 -- ---- contents out of range, which represent no book
-pub outside : (self : Register) (ok : Bool) → Guarded self.n self.count self.top self.held ok → not ok ≡ true → InRange self → ⊥
-outside self ok g e = g.none (not-true ok e)
+pub outside : (self : Register) (ok : Bool) → Guarded self.n self.count self.top self.held ok → ok ≡ false → InRange self → ⊥
+outside self ok g e = g.none e
 
-pub inside : (self : Register) (ok : Bool) → Guarded self.n self.count self.top self.held ok → not ok ≡ false → InRange self
-inside self ok g e = g.sure (not-false ok e)
+pub inside : (self : Register) (ok : Bool) → Guarded self.n self.count self.top self.held ok → ok ≡ true → InRange self
+inside self ok g e = g.sure e
 
 pub refuse_foreign : (self : Register) (c : Call) → (InRange self → ⊥) → Steps self c (record { register = self; answer = Refused 16 })
 unfolding number

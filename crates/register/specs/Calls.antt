@@ -17,7 +17,8 @@
 use Rattle.std.specs.Prelude.{◌≡◌, List, ℕ, zero, suc, length, drop}
 use Rattle.book.specs.Basics.{over}
 use Rattle.book.specs.Causes.{not_open, number, Caused}
-use Rattle.book.specs.Book.{Book, add, remove, lock, unlock, withdraw, reinstate, Call as Book-as-Call, edit, undo, close, answer, next, given, fresh_answer, fresh}
+use Rattle.book.specs.Book.{Book, add, remove, lock, unlock, withdraw, reinstate, Call as Book-as-Call, edit, undo, close, answer, next, given, fresh_answer}
+use Rattle.book.specs.Book.{fresh}
 use Rattle.register.specs.Marks.{Marked}
 use Rattle.register.specs.Counters.{InRange}
 use Rattle.register.specs.Representation.{Represents}

@@ -28,7 +28,8 @@ use Rattle.book.proofs.BookLaws.{refused_same}
 use Rattle.register.specs.Representation.{Represents}
 use Rattle.register.specs.Calls.{answer_of, answer_number, call_of, Steps}
 use Rattle.register.specs.History.{Lent, CallsMade, done, more_edit, more_undo, more_close, Entry, is-call, no_call, kind_call, word_call, close_kind}
-use Rattle.register.specs.History.{add_kind, remove_kind, lock_kind, unlock_kind, undo_kind, withdraw_kind, reinstate_kind, entry_number, entry_next, entry_calls}
+use Rattle.register.specs.History.{add_kind, remove_kind, lock_kind, unlock_kind, undo_kind, withdraw_kind, reinstate_kind, entry_number, entry_next}
+use Rattle.register.specs.History.{entry_calls}
 use Rattle.register.specs.HistoryLaws.{by_number, number_answer, kept, after_entry}
 use Rattle.register.specs.declared.Register.{Register}
 use Rattle.register.specs.declared.Outcome.{Outcome}
@@ -43,7 +44,8 @@ use Rattle.register.specs.declared.DraftAnswer.TheVariants.{Made, Refused}
 -- ---- entries
 kind_unclosed : (k f l t : ℕ) → unclosed (kind_call k f l t) ≡ kind_call k f l t
 unfolding kind_call unclosed
-kind_unclosed k f l t = go (eqb k add_kind) (eqb k remove_kind) (eqb k lock_kind) (eqb k unlock_kind) (eqb k undo_kind) (eqb k withdraw_kind) (eqb k reinstate_kind)
+kind_unclosed k f l t =
+    go (eqb k add_kind) (eqb k remove_kind) (eqb k lock_kind) (eqb k unlock_kind) (eqb k undo_kind) (eqb k withdraw_kind) (eqb k reinstate_kind)
   where
     by : (a b c d e g h : Bool) → Entry
     by a b c d e g h =

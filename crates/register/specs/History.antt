@@ -23,7 +23,7 @@
 use Rattle.std.specs.Prelude.{◌≡◌, List, [], ◌∷◌, ◌++◌, Bool, true, false, ◌||◌, ℕ, zero, suc, ◌*◌, ◌/◌, ◌%◌, length, take, drop, eqb, ltb}
 use Rattle.book.specs.Basics.{pick, tally, over}
 use Rattle.book.specs.Causes.{bad_size, short_work, unknown_kind, number, first_number, max_records}
-use Rattle.book.specs.Book.{Book, Edit, add, remove, lock, unlock, withdraw, reinstate, Call, edit, undo, close, answer, next, after}
+use Rattle.book.specs.Book.{Book, Edit, add, remove, lock, unlock, withdraw, reinstate, Call, edit, undo, close, answer, next}
 use Rattle.register.specs.Calls.{answer_number, Steps, Closes}
 use Rattle.register.specs.declared.Register.{Register}
 use Rattle.register.specs.declared.Outcome.{Outcome}

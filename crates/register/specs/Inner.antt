@@ -125,7 +125,8 @@ pub record Changed (self : Register) (p : Packed) (r : Register) : Type 0 where
 pub record TakenBack (self : Register) (kind x : ℕ) (r : Register) : Type 0 where
   pub kept : Kept self r
   pub marks : r.marks ≡ (take_back_kind kind x (packed_of self)).marks
-  pub sheet : Rises 0 (packed_of self).links → length (take_back_kind kind x (packed_of self)).links ≤ max_links → packed_of r ≡ take_back_kind kind x (packed_of self)
+  pub sheet : Rises 0 (packed_of self).links → length (take_back_kind kind x (packed_of self)).links ≤ max_links
+      → packed_of r ≡ take_back_kind kind x (packed_of self)
   pub counted : Rises 0 (packed_of self).links → Tallied self → Tallied r
 
 pub record Formed (ws : List ℕ) : Type 0 where

@@ -43,6 +43,7 @@ module _ {A : Type 0} (t : A → Bool) where
 
   pub in_filter : {x : A} (l : List A) → In x l → t x ≡ true → In x (filter t l)
   unfolding filter
+  in_filter {x = x} [] x3 e = elim x3 [ ]
   in_filter (y ∷ l) here e = rw e here
   in_filter {x} (y ∷ l) (there h) e = go (t y) (in_filter l h e)
     where

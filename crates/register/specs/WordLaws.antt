@@ -20,7 +20,8 @@
 --                  what an edit promises of words that are no register's, and of a register's
 -- Assumes nothing.
 use Rattle.std.specs.Prelude.{◌≡◌, refl, ℕ, ◌+◌, ◌≤◌, ◌<◌, length, take, drop}
-use Rattle.std.proofs.Common.{sym, subst, ◌∙◌, arith, length-append, length-take, length-drop, take_at, drop_at, get_or-take, get_or-drop, take-add, length-take-le}
+use Rattle.std.proofs.Common.{sym, subst, ◌∙◌, arith, length-append, length-take, length-drop, take_at, drop_at, get_or-take, get_or-drop, take-add}
+use Rattle.std.proofs.Common.{length-take-le}
 use Rattle.std.proofs.Math.Path.{ap}
 use mathlib.Core.List.{List, [], ◌∷◌, ◌++◌}
 use Rattle.std.proofs.Math.ListN.{get_or}

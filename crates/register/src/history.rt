@@ -39,7 +39,7 @@ const WORD_FROM: u64 = WORD_LABEL * WORD_LABELS;
 const WORD_KIND: u64 = WORD_FROM * WORD_RECORDS;
 
 // What a kind and arguments ask for: a call, or none.
-#[derive(Drop)]
+#[derive(Clone, Copy)]
 pub enum Entry {
     Call(Call),
     NoCall,

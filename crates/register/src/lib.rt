@@ -2,6 +2,8 @@
 // calls that edit it, drafts.rt a list of them made all or none, closing.rt closing up its numbers, parting.rt the register without a record's links,
 // history.rt a history as words, questions.rt what questions read, words.rt its words.
 // What the calls promise is stated in specs/Calls.antt, specs/History.antt and specs/Questions.antt, about the plain book of the crate book.
+#![tactic(auto)]
+
 mod closing;
 mod drafts;
 mod edits;
@@ -53,7 +55,7 @@ const LAST_HELD: usize = book::MAX_HELD - 1;
 
 // n records, and the mark of each; the first count words of links, ascending, are the links present; of ring, the held words before top are the latest accepted
 // edits; totals has the number of links of each label.
-#[derive(Drop)]
+#[derive(Clone, Copy)]
 pub struct Register {
     n: u16,
     count: usize,
@@ -66,14 +68,14 @@ pub struct Register {
 }
 
 // The answer to a call: accepted, or refused with the number of its cause.
-#[derive(Drop)]
+#[derive(Clone, Copy)]
 pub enum Answer {
     Done,
     Refused(u32),
 }
 
 // An edit or undo. A link's parts are from, label and to.
-#[derive(Drop)]
+#[derive(Clone, Copy)]
 pub enum Call {
     Add(u16, u8, u16),
     Remove(u16, u8, u16),
@@ -85,35 +87,35 @@ pub enum Call {
 }
 
 // What every call that makes or edits a register hands back.
-#[derive(Drop)]
+#[derive(Clone, Copy)]
 pub struct Outcome {
     pub register: Register,
     pub answer: Answer,
 }
 
 // The answer to a draft: every call made, or none, with the place of the first that is refused and its number.
-#[derive(Drop)]
+#[derive(Clone, Copy)]
 pub enum DraftAnswer {
     Made,
     Refused(usize, u32),
 }
 
 // What a draft hands back.
-#[derive(Drop)]
+#[derive(Clone, Copy)]
 pub struct Applied {
     pub register: Register,
     pub answer: DraftAnswer,
 }
 
 // The links of a register, as the first count of words.
-#[derive(Drop)]
+#[derive(Clone, Copy)]
 pub struct Links {
     pub words: [u32; book::MAX_LINKS],
     pub count: usize,
 }
 
 // The counters of a register.
-#[derive(Drop)]
+#[derive(Clone, Copy)]
 struct Counters {
     n: u16,
     count: usize,
@@ -122,14 +124,14 @@ struct Counters {
 }
 
 // What an edit of a register's arrays hands back beside them.
-#[derive(Drop)]
+#[derive(Clone, Copy)]
 struct Edited {
     counters: Counters,
     answer: Answer,
 }
 
 // A link put in or taken out.
-#[derive(Drop)]
+#[derive(Clone, Copy)]
 struct Linking {
     from: u16,
     label: u8,
@@ -138,7 +140,7 @@ struct Linking {
 }
 
 // A change of a record's mark: from which to which; the causes if the record has the second already, and if it has another; and what is held for it.
-#[derive(Drop)]
+#[derive(Clone, Copy)]
 struct Marking {
     from: u32,
     to: u32,

@@ -47,7 +47,7 @@ pub fn links_apart(links: &[u32], record: u16, to: &mut [u32]) -> usize
 }
 
 // What is left of a register's words: how many, and their totals.
-#[derive(Drop)]
+#[derive(Clone, Copy)]
 struct Rest {
     count: usize,
     totals: [u32; book::LABELS],

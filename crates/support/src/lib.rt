@@ -1,5 +1,7 @@
 // Sole support: which records would lose every chain to the anchors if one core did. A product above the engine: the relation behind its questions is asked
 // of the register's marks and links, and of what is left of them without the core's links; its proofs rest on what is promised there.
+#![tactic(auto)]
+
 ghost use Rattle.std.specs.Prelude.{◌≡◌, false, not, ◌&&◌, ℕ, ◌<◌, ◌≤◌, min, leb, length, take, get_or};
 ghost use Rattle.book.specs.Causes.{max_records, max_links};
 ghost use Rattle.paths.specs.Questions.{chain_work};
@@ -16,14 +18,14 @@ use register::Register;
 const RECORD_WORDS: usize = 64;
 
 // Of each record, whether it has a chain to some anchor; the number of a refusal, or 0.
-#[derive(Drop)]
+#[derive(Clone, Copy)]
 struct Marks {
     records: [bool; book::MAX_RECORDS],
     number: u32,
 }
 
 // The records that fall, ascending, as the first count of words.
-#[derive(Drop)]
+#[derive(Clone, Copy)]
 struct FallenList {
     words: [u32; book::MAX_RECORDS],
     count: usize,
