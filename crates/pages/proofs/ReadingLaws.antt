@@ -1,4 +1,13 @@
--- Laws of the functions that read a line: figures, cells, ascending words, and what is written of them. Assumes nothing.
+-- Laws of the functions that read a line: figures, cells, ascending words, and what is written of them.
+--   value_more, value_small, record_small
+--                         the value of a figure more; of at most five figures it is small
+--   cells_end, cells_next
+--                         the words of a line's cells: none where a blank ends them, one more before the next cell
+--   rising-more, rising_not
+--                         ascending words, one more; words that do not ascend
+--   wrote_front, joined_fits
+--                         what is written from the front on; one part more of a joined list fits
+-- Assumes nothing.
 use mathlib.Core.Path.{◌≡◌, refl, sym, ap, subst, ◌∙◌}
 use mathlib.Core.List.{List, [], ◌∷◌, ◌++◌}
 use Prim.Native.Nat.{ℕ, suc, ◌+◌, ◌-◌, ◌*◌, ◌%◌, ◌≤◌, ◌<◌}

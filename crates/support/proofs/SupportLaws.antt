@@ -1,5 +1,4 @@
 -- Laws of sole support: the computed answer is what the definition says, and nothing else is; the order of its causes.
---   support_work n         the words of work that are needed: 32 × D + 64 × n
 --   some_in, in_some      some member of a list passes a test exactly if one does
 --   in_chosen, chosen_in, chosen_rises, chosen_same
 --                         the numbers below n that pass a test, ascending; tests that agree below n choose alike

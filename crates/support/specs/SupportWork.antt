@@ -1,4 +1,5 @@
--- What SupportLaws is about.
+-- How much work sole support takes.
+--   support_work n         the words of work that are needed: 32 × D + 64 × n
 use Rattle.std.specs.Prelude.{◌≡◌, refl, List, [], ◌∷◌, ◌++◌, Bool, true, false, not, ◌||◌, ◌&&◌, ℕ, zero, suc, ◌+◌, ◌≤◌, ◌<◌, length, leb, ltb}
 use Rattle.std.proofs.Common.{sym, ap, ap₂, ◌∙◌, subst, ⊎_elim, append-nil, arith}
 use Rattle.std.proofs.lemmas.Bool.{false≢true}
