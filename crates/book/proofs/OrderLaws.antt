@@ -14,11 +14,11 @@ use Rattle.std.proofs.Math.ListN.{length}
 use borrow.Author.Tests.{leb-false, lt-leb, le-leb, not-false}
 use Rattle.book.specs.Basics.{pick, has, without, tally}
 use Rattle.book.specs.Causes.{no_record, bad_label, locked_end, already, missing, full, withdrawn_record, number, first_number, labels, max_links}
-use Rattle.book.specs.Book.{Link, same_link, Sheet, Book, Edit, add, remove, edit, present, is_locked, is_withdrawn, total, causes, edit_answer, edited}
+use Rattle.book.specs.Book.{Link, same_link, Sheet, Book, Edit, add, remove, edit, present, total, causes, edit_answer, edited}
 use Rattle.book.specs.Book.{turned, answer, next}
 use Rattle.book.proofs.SetLaws.{same_link_test, without_other}
 use Rattle.book.proofs.BookLaws.{first-none}
-use Rattle.book.specs.Orders.{Single, adds, removes, link_in, Alike}
+use Rattle.book.specs.Orders.{Single, adds, removes, link_in}
 
 -- ---- an add or a remove is accepted
 abbrev removing : {e : Edit} → Single e → Bool

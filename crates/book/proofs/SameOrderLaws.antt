@@ -1,22 +1,15 @@
 -- Two adds or removes of different links change places, and the books after them are alike.
 --   exchange_same   the books after both orders are alike
 -- Assumes nothing.
-use Rattle.std.specs.Prelude.{◌≡◌, Bool, ◌||◌, leb, eqb}
-use Rattle.std.proofs.Math.Path.{refl, ap₂}
-use Rattle.std.proofs.Common.{sym, ap, subst, ◌∙◌, true≢false}
-use mathlib.Core.List.{List, [], ◌∷◌}
-use Rattle.std.proofs.Math.Bool.{true, false}
-use Prim.Native.Nat.{ℕ, suc, ◌≤◌, ◌<◌}
-use native.Mathlib.Omega.{arith}
+use Rattle.std.specs.Prelude.{◌≡◌, eqb}
+use Rattle.std.proofs.Common.{sym, ap, ◌∙◌}
+use Prim.Native.Nat.{◌<◌}
 use Rattle.std.proofs.Math.ListN.{length}
-use borrow.Author.Tests.{leb-false, lt-leb, le-leb, not-false}
-use Rattle.book.specs.Basics.{pick, has, without, tally}
-use Rattle.book.specs.Causes.{no_record, bad_label, locked_end, already, missing, full, withdrawn_record, number, first_number, labels, max_links}
-use Rattle.book.specs.Book.{Link, same_link, Sheet, Book, Edit, add, remove, edit, present, is_locked, is_withdrawn, total, causes, edit_answer, edited}
-use Rattle.book.specs.Book.{turned, answer, next}
-use Rattle.book.proofs.SetLaws.{same_link_test, without_other}
-use Rattle.book.proofs.BookLaws.{first-none}
-use Rattle.book.specs.Orders.{Single, adds, removes, link_in, Alike}
+use Rattle.book.specs.Basics.{has}
+use Rattle.book.specs.Causes.{max_links}
+use Rattle.book.specs.Book.{Sheet, Book, Edit, edit, present, is_locked, is_withdrawn, total, edited}
+use Rattle.book.specs.Book.{answer, next}
+use Rattle.book.specs.Orders.{Single, link_in, Alike}
 use Rattle.book.proofs.OrderLaws.{exchange_free, links_alike, marks_kept, taken}
 
 module _ (b : Book) (room : length b.sheet.links < max_links) {d e : Edit} (x : Single d) (y : Single e) (apart : link_in x ≡ link_in y → ⊥)

@@ -7,16 +7,15 @@
 --   offsets_are           the answer is the one that is asked for
 --   cannot_are, told_are  the same as the code has it: by the flag, and a list that has the words
 -- Assumes nothing.
-use Rattle.std.specs.Prelude.{◌≡◌, List, [], ◌∷◌, Bool, ℕ, zero, suc, ◌+◌, ◌*◌, ◌^◌, ◌<◌, ◌≤◌, ℤ, pos, neg_ℤ, ◌-ℤ◌, length, get_or, take, ◌≤ℤ◌}
+use Rattle.std.specs.Prelude.{◌≡◌, List, Bool, ℕ, zero, suc, ◌+◌, ◌*◌, ◌<◌, ◌≤◌, ℤ, pos, neg_ℤ, ◌-ℤ◌, length, get_or, take, ◌≤ℤ◌}
 use Rattle.std.proofs.Math.Path.{refl, ap, subst}
 use Rattle.std.proofs.Common.{sym, ◌∙◌, inl, inr, not-suc-le-zero, get_or-take, length-take-le}
 use Rattle.std.proofs.Math.Bool.{true, false, true≢false}
 use native.Mathlib.Omega.{arith}
-use Rattle.std.specs.Int.Signed.{mag}
 use Rattle.offsets.specs.declared.Tie.{Tie}
 use Rattle.offsets.proofs.LinearLaws.{of_le, to_le, to_eq, of_sub, of_pos, of_neg_up, of_neg_down}
-use Rattle.offsets.specs.Relax.{State, known, dist, settled}
-use Rattle.offsets.specs.Offsets.{Placing, Places, Joined, self, Limit, itself, joined, free, Answer, cannot, limits, OffsetsAre, none, some}
+use Rattle.offsets.specs.Relax.{State, known, dist}
+use Rattle.offsets.specs.Offsets.{Placing, Places, Joined, self, Limit, itself, joined, free, cannot, limits, OffsetsAre, none, some}
 use Rattle.offsets.proofs.ArcLaws.{arcs3, turned}
 use Rattle.offsets.proofs.PassLaws.{settled_is}
 use Rattle.offsets.proofs.SettleLaws.{passes}
@@ -26,7 +25,7 @@ use Rattle.offsets.specs.Thirds.{choose, Starts}
 use Rattle.offsets.proofs.ThirdsLaws.{thirds_settle, near_at, base_at, known_joined, second_holds, third_holds, first_places, under_second}
 use Rattle.offsets.proofs.ThirdsLaws.{under_third}
 use Rattle.offsets.proofs.TurnedTieLaws.{neg, turned_places, places_turned, turned_joined, turned_ready}
-use Rattle.offsets.specs.Finds.{ran, least-word, most-word, Told, Fits, words, answer, offsets}
+use Rattle.offsets.specs.Finds.{ran, least-word, most-word, Told, words, answer, offsets}
 
 -- ---- the list
 words_length : (lo hi : ℕ → ℤ) (x k : ℕ) → length (words lo hi x k) ≡ k * 2

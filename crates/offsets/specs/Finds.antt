@@ -5,16 +5,13 @@
 --   Told, Fits            a list that has the words of the first k records; that all words fit 32 bits
 --   words, answer         two words to a record, k records from x on; the answer, by the flag and the list
 --   offsets n ts l        what a program makes of it
-use Rattle.std.specs.Prelude.{◌≡◌, List, [], ◌∷◌, Bool, ℕ, zero, suc, ◌+◌, ◌*◌, ◌^◌, ◌<◌, ◌≤◌, ℤ, pos, neg_ℤ, ◌-ℤ◌, length, get_or, take, ◌≤ℤ◌}
-use Rattle.std.proofs.Math.Path.{refl, ap, subst}
-use Rattle.std.proofs.Common.{sym, ◌∙◌, inl, inr, not-suc-le-zero, get_or-take, length-take-le}
-use Rattle.std.proofs.Math.Bool.{true, false, true≢false}
-use native.Mathlib.Omega.{arith}
+use Rattle.std.specs.Prelude.{◌≡◌, List, [], ◌∷◌, Bool, ℕ, zero, suc, ◌+◌, ◌*◌, ◌^◌, ◌<◌, ℤ, pos, neg_ℤ, get_or}
+use Rattle.std.proofs.Math.Bool.{true, false}
 use Rattle.std.specs.Int.Signed.{mag}
 use Rattle.offsets.specs.declared.Tie.{Tie}
 use Rattle.offsets.specs.Relax.{State, known, dist, settled}
-use Rattle.offsets.specs.Offsets.{Placing, Places, Joined, self, Limit, itself, joined, free, Answer, cannot, limits, OffsetsAre, none, some}
-use Rattle.offsets.specs.Thirds.{choose, Starts}
+use Rattle.offsets.specs.Offsets.{Answer, cannot, limits}
+use Rattle.offsets.specs.Thirds.{choose}
 
 -- ---- what a program does
 unfoldable pub ran : ℕ → List Tie → List ℤ → State

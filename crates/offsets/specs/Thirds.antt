@@ -3,16 +3,8 @@
 -- changed. That the thirds settle as if alone is shown in proofs/ThirdsLaws.
 --   choose b y z     the one or the other
 --   firstly, Starts  what stands in the list at first
-use Rattle.std.specs.Prelude.{◌≡◌, refl, ◌⊎◌, List, Bool, true, false, ℕ, suc, ◌+◌, ◌-◌, ◌*◌, ◌<◌, ◌≤◌, ltb, eqb, ℤ, pos, ◌+ℤ◌, ◌-ℤ◌, length, ◌≤ℤ◌}
-use Rattle.std.proofs.Common.{sym, ◌∙◌, inl, inr, mul-le-mul, not-suc-le-zero, ltb-true, ltb-false, lt-ltb, le-ltb, eqb-true}
-use Rattle.std.proofs.Math.Path.{ap, subst}
-use native.Mathlib.Omega.{arith}
-use Rattle.std.specs.Int.Signed.{≤ℤ_refl}
-use Rattle.std.proofs.lemmas.Bool.{eqb-false}
-use Rattle.book.specs.Basics.{In}
-use Rattle.offsets.specs.declared.Tie.{Tie}
-use Rattle.offsets.specs.Relax.{known, dist}
-use Rattle.offsets.specs.Offsets.{Placing, Places, Joined, self}
+use Rattle.std.specs.Prelude.{◌≡◌, List, Bool, true, false, ℕ, ◌+◌, ◌*◌, ◌<◌, ltb, eqb, ℤ, pos, length}
+use Rattle.offsets.specs.Relax.{dist}
 
 abbrev pub choose : Bool → ℤ → ℤ → ℤ
 choose true y z = y

@@ -13,7 +13,6 @@ use Rattle.std.proofs.Math.Path.{◌≡◌, refl, ap, subst}
 use Rattle.std.proofs.Common.{sym, ap₂, ◌∙◌, arith}
 use Rattle.std.specs.Prelude.{◌↔◌, Bool, true, false, not, ℕ, ◌<◌}
 use mathlib.Core.List.{List, [], ◌∷◌, ◌++◌, append_assoc, append-nil}
-use Rattle.book.specs.Book.{Link}
 use Rattle.paths.specs.Expressions.{Letter, Symbol, stands_for, Expr, symbol, star, optional}
 use Rattle.paths.specs.Words.{inverse_letter, backwards, Words, itself, inside, reversed, left, right, joined, once, again, star_none, star_some}
 use Rattle.paths.specs.Words.{optional_none, optional_once}

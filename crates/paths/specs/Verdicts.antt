@@ -4,13 +4,11 @@
 --   verdict s      over 256 bytes first, then the grammar, then 63 letters and depth 8
 --   InLimits s e   s is the text of e, within the limits
 -- Assumes nothing.
-use Rattle.std.specs.Prelude.{◌≡◌, refl, List, [], ◌∷◌, Bool, true, false, ℕ, ◌<◌, ◌≤◌, leb, length}
-use Rattle.std.proofs.Common.{sym, ap, ◌∙◌, inl, inr, ⊎_elim, append-nil, arith, leb-true, leb-false, le-leb}
-use Rattle.std.proofs.lemmas.Bool.{lt-leb}
+use Rattle.std.specs.Prelude.{List, [], ◌∷◌, ℕ, ◌≤◌, leb, length}
 use Rattle.book.specs.Basics.{pick}
 use Rattle.book.specs.Causes.{max_bytes, max_letters, max_depth}
 use Rattle.paths.specs.Expressions.{Expr, letters, depth}
-use Rattle.paths.specs.Grammar.{alternatives, Is, Verdict, accepted, long, outside, large, Judged, over_bytes, no_syntax, over_limits, good}
+use Rattle.paths.specs.Grammar.{alternatives, Is, Verdict, accepted, long, outside, large}
 use Rattle.paths.specs.Descent.{Parse, got, fault, read_alternatives}
 
 -- of an expression, by its size

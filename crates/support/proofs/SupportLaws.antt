@@ -14,7 +14,7 @@
 --   fallen_none           no anchors, no records
 --   support_in_order      the causes stand in the order of S16.4
 -- Assumes nothing.
-use Rattle.std.specs.Prelude.{◌≡◌, refl, List, [], ◌∷◌, ◌++◌, Bool, true, false, not, ◌||◌, ◌&&◌, ℕ, zero, suc, ◌+◌, ◌≤◌, ◌<◌, length, leb, ltb}
+use Rattle.std.specs.Prelude.{◌≡◌, refl, List, [], ◌∷◌, ◌++◌, Bool, true, false, not, ◌||◌, ◌&&◌, ℕ, zero, suc, ◌≤◌, ◌<◌, length, leb, ltb}
 use Rattle.std.proofs.Common.{sym, ap, ap₂, ◌∙◌, subst, ⊎_elim, append-nil, arith}
 use Rattle.std.proofs.lemmas.Bool.{false≢true}
 use Rattle.std.proofs.Math.Bool.{true≢false}
@@ -33,7 +33,6 @@ use Rattle.paths.specs.Relations.{cells}
 use Rattle.paths.specs.Inside.{Inside}
 use Rattle.paths.proofs.RelationLaws.{cells_is}
 use Rattle.paths.proofs.PairLaws.{history_inside, text_in_order}
-use Rattle.paths.specs.Questions.{pairs_work, chain_work}
 use Rattle.register.specs.Parting.{touches}
 use Rattle.support.specs.Support.{without, Held, Falls, FallenAre, some, chosen, reaches, falls, fallen, orderly, fallen_of}
 use Rattle.support.specs.Support.{support_causes}

@@ -1,7 +1,7 @@
 -- The causes in their order, then the front of the work filled. Assumes nothing.
-use Rattle.std.proofs.Common.{arith, ◌≡◌, ◌≤◌, ◌<◌, ◌+◌, ◌-◌, ◌*◌, ◌∙◌, sym, ap, refl, ℕ, ℤ, Bool, List, length, take, length-take-le, drop, subst}
-use Rattle.offsets.specs.Inner.{sooner, base_number}
-use Rattle.offsets.proofs.PlanLaws.{plan_refused, plan_judged, base_in, plan_short, plan_made}
+use Rattle.std.proofs.Common.{arith, ◌≡◌, ◌≤◌, ◌*◌, ◌∙◌, ap, ℕ, length, length-take-le, drop}
+use Rattle.offsets.specs.Inner.{sooner}
+use Rattle.offsets.proofs.PlanLaws.{base_in, plan_short, plan_made}
 use Rattle.offsets.proofs.begin.Goals as goal
 
 -- the number of the base and that of the ties, the sooner of the two

@@ -1,11 +1,9 @@
 -- `fill` writes the numbers in turn. The loop's invariant: the numbers before i are as they are to be. The measure is what is left.
 -- Assumes nothing.
-use mathlib.Core.Path.{◌≡◌, refl, ◌∙◌}
+use mathlib.Core.Path.{◌≡◌}
 use Prim.Native.Nat.{◌≤◌, ◌-◌}
-use native.Mathlib.Omega.{arith}
-use borrow.Author.Rules.{rules}
-use lib.ListN.{length, length-set}
-use Rattle.offsets.proofs.StartLaws.{Begun, begun_none, begun_more, begun_all}
+use lib.ListN.{length}
+use Rattle.offsets.proofs.StartLaws.{Begun}
 use Rattle.offsets.proofs.fill.Given as goal
 
 abbrev pub invariant-loop-i : goal.invariant-loop-i

@@ -1,6 +1,6 @@
 -- At each way out, the law of `proofs/LowerLaws.antt` for it. Assumes nothing.
 use Rattle.std.proofs.Common.{arith}
-use Rattle.offsets.proofs.LowerLaws.{no_from, no_to, too_low, too_high, sum_fits, stored, stayed}
+use Rattle.offsets.proofs.LowerLaws.{no_from, no_to, too_low, too_high, stored, stayed}
 use Rattle.offsets.proofs.lower.Goals as goal
 
 pub returns-then-from-d : goal.returns-then-from-d

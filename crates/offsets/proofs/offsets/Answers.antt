@@ -1,5 +1,5 @@
 -- What the calls ensure makes what is told (`calls_told`). Assumes nothing.
-use Rattle.std.proofs.Common.{arith, ◌≡◌, ◌≤◌, ◌<◌, ◌+◌, ◌-◌, ◌*◌, ◌∙◌, sym, ap, refl, ℕ, ℤ, Bool, List, length, take, drop, subst}
+use Rattle.std.proofs.Common.{◌∙◌}
 use Rattle.offsets.proofs.AmongLaws.{calls_told}
 use Rattle.offsets.proofs.offsets.Goals as goal
 

@@ -1,5 +1,5 @@
 -- What the passes that are left make of the distances is what all of them make of the first ones (`passes_again`). Assumes nothing.
-use Rattle.std.proofs.Common.{arith, ◌≡◌, ◌≤◌, ◌<◌, ◌+◌, ◌-◌, ◌*◌, ◌∙◌, sym, ap, refl, ℕ, ℤ, Bool, List, length, take, suc, drop, subst}
+use Rattle.std.proofs.Common.{arith, ◌≡◌, ◌-◌, ◌∙◌, sym, ap, ℕ, suc}
 use Rattle.offsets.specs.Relax.{settled, left_after}
 use Rattle.offsets.proofs.TurnLaws.{passes_again}
 use Rattle.offsets.proofs.settle.Goals as goal

@@ -1,5 +1,5 @@
 -- The words of one record more (`told_more`). Assumes nothing.
-use Rattle.std.proofs.Common.{arith, ◌≡◌, ◌≤◌, ◌<◌, ◌+◌, ◌-◌, ◌*◌, ◌∙◌, sym, ap, refl, ℕ, ℤ, Bool, List, length, take, drop, subst}
+use Rattle.std.proofs.Common.{arith, ◌+◌, ◌*◌, ◌∙◌}
 use Rattle.std.proofs.Math.ListN.{set, length-set}
 use Rattle.offsets.proofs.TellLaws.{told_more, past_same}
 use Rattle.offsets.proofs.tell.Goals as goal

@@ -1,14 +1,11 @@
 -- `tell` writes the two words of each record in turn. The loop's invariant: the words of the records before x are there, if all fit, and those past the last
 -- record's are as they were. The measure is what is left. Assumes nothing.
-use mathlib.Core.Path.{◌≡◌, refl, ◌∙◌}
+use mathlib.Core.Path.{◌≡◌}
 use mathlib.Core.List.{List}
-use Prim.Native.Nat.{ℕ, ◌≤◌, ◌-◌, ◌+◌, ◌*◌}
-use native.Mathlib.Omega.{arith}
-use borrow.Author.Rules.{rules}
+use Prim.Native.Nat.{ℕ, ◌≤◌, ◌-◌, ◌*◌}
 use lib.IntN.{ℤ}
-use lib.ListN.{length, set, drop, length-set}
+use lib.ListN.{length, drop}
 use Rattle.offsets.specs.Finds.{Told, Fits}
-use Rattle.offsets.proofs.TellLaws.{told_none, told_more, past_same}
 use Rattle.offsets.proofs.tell.Given as goal
 
 pub record Telling (n : ℕ) (d list₀ list : List ℤ) (x : ℕ) : Type 0 where

@@ -1,5 +1,5 @@
 -- None are in use below 0; one record more by `used_more`, or by `used_same` if it is withdrawn. Assumes nothing.
-use Rattle.std.proofs.Common.{◌≡◌, sym, ap, ◌∙◌, ℕ, length, arith, eq-eqb, ne_eqb}
+use Rattle.std.proofs.Common.{sym, ap, ◌∙◌, length, arith, eq-eqb, ne_eqb}
 use Rattle.k2.specs.Bits.{bit_at}
 use Rattle.bits.specs.BitSets.{put}
 use Rattle.bits.specs.BitSetLaws.{bits_none}

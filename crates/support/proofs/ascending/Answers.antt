@@ -1,10 +1,7 @@
 -- `ascending` goes over the records with the least that the next may be. The loop's invariant: the list is in order exactly if the rest is from that least on.
 -- The measure is the records left. Assumes nothing.
 use native.Mathlib.Omega.{arith}
-use mathlib.Core.Path.{◌≡◌, refl, sym, ◌∙◌}
-use Prim.Native.Nat.{◌-◌, ◌≤◌}
-use lib.ListN.{length, drop}
-use Rattle.support.specs.Support.{orderly}
+use mathlib.Core.Path.{sym, ◌∙◌}
 use Rattle.support.proofs.LoopLaws.{order_broken, order_next, order_past}
 use Rattle.support.proofs.ascending.Goals as goal
 

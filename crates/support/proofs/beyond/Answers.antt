@@ -1,12 +1,9 @@
 -- `beyond` goes over the records. The loop's invariant: some record of the list is not below n exactly if one of the rest is. The measure is the records left.
 -- Assumes nothing.
 use native.Mathlib.Omega.{arith}
-use mathlib.Core.Path.{◌≡◌, refl, sym, ◌∙◌}
-use Prim.Native.Nat.{◌-◌, ◌≤◌}
+use mathlib.Core.Path.{sym, ◌∙◌}
 use lib.Dec.{leb}
-use lib.ListN.{length, drop}
 use borrow.Author.Tests.{le-leb, lt-leb}
-use Rattle.support.specs.Support.{some}
 use Rattle.support.proofs.LoopLaws.{some_found, some_next, some_past}
 use Rattle.support.proofs.beyond.Goals as goal
 

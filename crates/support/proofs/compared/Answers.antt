@@ -1,11 +1,9 @@
 -- `compared` hands over the records that the first marks have and the second have not, by the promises of the calls in their order
 -- (Answering). Assumes nothing.
-use native.Mathlib.Omega.{arith}
 use mathlib.Core.List.{List}
 use mathlib.Core.Path.{◌≡◌, sym, subst}
-use Prim.Native.Nat.{ℕ, ◌≤◌}
-use lib.ListN.{length, take}
-use lib.Seq.{length-take-le}
+use Prim.Native.Nat.{ℕ}
+use lib.ListN.{length}
 use Rattle.book.specs.Book.{Book}
 use Rattle.register.specs.Parting.{without_record}
 use Rattle.rowpairs.specs.Evaluation.{Known}

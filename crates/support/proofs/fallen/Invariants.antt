@@ -1,17 +1,13 @@
 -- `fallen` goes over the records. The loop's invariant: the words written are the records below x that are lost. The measure is the
 -- records left. Assumes nothing.
 use mathlib.Core.Bool.{Bool}
-use native.Mathlib.Omega.{arith}
 use mathlib.Core.List.{List}
-use mathlib.Core.Logic.{⊎_elim}
-use mathlib.Core.Path.{◌≡◌, refl, sym, ap, ap₂, ◌∙◌}
+use mathlib.Core.Path.{◌≡◌}
 use Prim.Native.Nat.{ℕ, ◌-◌, ◌≤◌}
-use lib.ListN.{length, length-set, take}
-use borrow.Author.Rules.{rules}
+use lib.ListN.{length, take}
 use Rattle.book.specs.Causes.{max_records}
 use Rattle.support.specs.Support.{chosen}
 use Rattle.support.specs.Inner.{lost}
-use Rattle.support.proofs.LoopLaws.{chosen_more, chosen_passed}
 use Rattle.support.proofs.fallen.Given as goal
 
 -- what holds whenever the loop is at its head

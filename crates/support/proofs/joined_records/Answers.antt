@@ -1,12 +1,8 @@
 -- `joined_records` goes over the records. The loop's invariant: the records below x are marked as they are joined. The measure is
 -- the records left. It rests on `reaches_joined`. Assumes nothing.
-use mathlib.Core.List.{List}
 use native.Mathlib.Omega.{arith}
-use mathlib.Core.Bool.{Bool, false}
-use mathlib.Core.Path.{◌≡◌, refl, ◌∙◌}
-use Prim.Native.Nat.{ℕ, ◌-◌, ◌≤◌, ◌<◌}
-use lib.ListN.{length, length-set, get_or}
-use Rattle.book.specs.Causes.{max_records}
+use mathlib.Core.Path.{◌∙◌}
+use lib.ListN.{length-set}
 use Rattle.support.specs.Support.{reaches}
 use Rattle.rowpairs.specs.Evaluation.{relation_in}
 use Rattle.support.proofs.LoopLaws.{marked_more, below_all, reaches_joined}

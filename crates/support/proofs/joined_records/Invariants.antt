@@ -1,16 +1,13 @@
 -- `joined_records` goes over the records. The loop's invariant: the records below x are marked as they are joined. The measure is
 -- the records left. It rests on `reaches_joined`. Assumes nothing.
 use mathlib.Core.List.{List}
-use native.Mathlib.Omega.{arith}
 use mathlib.Core.Bool.{Bool, false}
-use mathlib.Core.Path.{◌≡◌, refl, ◌∙◌}
+use mathlib.Core.Path.{◌≡◌}
 use Prim.Native.Nat.{ℕ, ◌-◌, ◌≤◌, ◌<◌}
-use lib.ListN.{length, length-set, get_or}
-use borrow.Author.Rules.{rules}
+use lib.ListN.{length, get_or}
 use Rattle.book.specs.Causes.{max_records}
 use Rattle.support.specs.Support.{reaches}
 use Rattle.rowpairs.specs.Evaluation.{relation_in}
-use Rattle.support.proofs.LoopLaws.{marked_more, below_all, reaches_joined}
 use Rattle.support.proofs.joined_records.Given as goal
 
 -- what holds whenever the loop is at its head

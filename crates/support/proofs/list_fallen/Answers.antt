@@ -1,7 +1,5 @@
 -- `list_fallen` refuses a list that is shorter than the records found, and writes them over its front else. Assumes nothing.
 use native.Mathlib.Omega.{arith}
-use mathlib.Core.Path.{sym}
-use lib.Seq.{length-take-le}
 use Rattle.support.proofs.AnswerLaws.{handed_short, handed_whole}
 use Rattle.support.proofs.list_fallen.Goals as goal
 

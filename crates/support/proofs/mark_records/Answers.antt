@@ -1,10 +1,6 @@
 -- `mark_records` has the relation made, and marks the records by it (`marks_refused`, `marks_made`). Assumes nothing.
 use native.Mathlib.Omega.{arith}
-use mathlib.Core.Bool.{false}
-use mathlib.Core.Path.{◌≡◌, refl, sym, subst}
-use Prim.Native.Nat.{ℕ}
-use lib.Dec.{leb}
-use Rattle.support.specs.Support.{some}
+use mathlib.Core.Path.{refl}
 use Rattle.support.proofs.AnswerLaws.{marks_refused, marks_made}
 use Rattle.support.proofs.mark_records.Goals as goal
 

@@ -1,9 +1,4 @@
 -- `sole_support` asks of what it reads of the register. Assumes nothing.
-use native.Mathlib.Omega.{arith}
-use mathlib.Core.Path.{◌≡◌, sym}
-use Prim.Native.Nat.{◌≤◌}
-use lib.ListN.{length, take}
-use lib.Seq.{length-take-le}
 use Rattle.rowpairs.specs.RelatingLaws.{known_read}
 use Rattle.support.proofs.sole_support.Goals as goal
 

@@ -1,7 +1,6 @@
 -- `supported`: each refusal by the causes' order, and the rest by the promise of `compared`, whose part of the work is short
 -- exactly if the whole is. Assumes nothing.
 use mathlib.Core.Path.{sym, ◌∙◌}
-use borrow.Author.Tests.{not-true, not-false}
 use Rattle.support.proofs.AnswerLaws.{refuses_core, refuses_beyond, refuses_unordered, part_length, supports}
 use Rattle.support.proofs.supported.Goals as goal
 

@@ -1,10 +1,6 @@
 -- `figures` takes one figure off at a time. The loop's invariant: those counted and those of the rest are one more than those of the number. The
 -- measure is the rest. It rests on `length_decimal_more`. Assumes nothing.
-use mathlib.Core.Path.{◌≡◌}
-use Prim.Native.Nat.{◌+◌}
 use native.Mathlib.Omega.{arith}
-use lib.ListN.{length}
-use Rattle.report.specs.Report.{decimal}
 use Rattle.report.proofs.ReportLaws.{length_decimal, length_decimal_small, length_decimal_more}
 use Rattle.pages.proofs.printing.figures.Goals as goal
 

@@ -2,10 +2,8 @@
 -- measure is the rest. It rests on `length_decimal_more`. Assumes nothing.
 use mathlib.Core.Path.{◌≡◌}
 use Prim.Native.Nat.{◌+◌}
-use native.Mathlib.Omega.{arith}
 use lib.ListN.{length}
 use Rattle.report.specs.Report.{decimal}
-use Rattle.report.proofs.ReportLaws.{length_decimal, length_decimal_small, length_decimal_more}
 use Rattle.pages.proofs.printing.figures.Given as goal
 
 abbrev pub invariant-loop-rest : goal.invariant-loop-rest

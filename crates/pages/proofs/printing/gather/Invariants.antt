@@ -1,12 +1,10 @@
 -- `gather`: the loop's invariant is that what is ahead of the start is the words found, and then what is ahead of the place reached; the measure is how many
 -- more fit a line. A turn finds one more (`gathered_more`). Assumes nothing.
-use mathlib.Core.Path.{◌≡◌, refl, ap, ◌∙◌}
-use mathlib.Core.List.{List, [], ◌++◌}
+use mathlib.Core.Path.{◌≡◌}
+use mathlib.Core.List.{List, ◌++◌}
 use Prim.Native.Nat.{ℕ, ◌-◌, ◌≤◌, ◌<◌}
-use native.Mathlib.Omega.{arith}
-use lib.ListN.{length, take, get_or, length-set}
+use lib.ListN.{length, take, get_or}
 use Rattle.pages.specs.Lines.{pair_words, held, ahead}
-use Rattle.pages.proofs.GatherLaws.{ahead_gap, ahead_end, gathered_more, small_more}
 use Rattle.pages.proofs.printing.gather.Given as goal
 
 -- what holds whenever the loop is at its head

@@ -1,5 +1,4 @@
 -- `print` has the relation made, and lays its pairs out where it was made. Assumes nothing.
-use mathlib.Core.Path.{◌≡◌}
 use native.Mathlib.Omega.{arith}
 use lib.ListN.{length}
 use Rattle.pages.proofs.AnswerLaws.{prints_refused, prints_laid}

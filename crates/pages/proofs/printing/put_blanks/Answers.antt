@@ -1,13 +1,9 @@
 -- `put_blanks`: the invariant is that i blanks are written, the measure is what is left. A turn is one blank more (`wrote_blank`). Assumes nothing.
-use mathlib.Core.List.{List}
-use mathlib.Core.Path.{◌≡◌, refl, subst}
-use Prim.Native.Nat.{ℕ, ◌+◌, ◌-◌, ◌≤◌}
+use mathlib.Core.Path.{refl}
 use native.Mathlib.Nat.{add-zero}
 use native.Mathlib.Omega.{arith}
-use lib.ListN.{length, length-set}
-use Rattle.answers.specs.Written.{Wrote}
+use lib.ListN.{length-set}
 use Rattle.answers.specs.WrittenLaws.{wrote_none}
-use Rattle.pages.specs.Pages.{blanks}
 use Rattle.pages.proofs.WritingLaws.{wrote_blank}
 use Rattle.pages.proofs.printing.put_blanks.Goals as goal
 

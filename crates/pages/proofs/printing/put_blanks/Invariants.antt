@@ -1,14 +1,10 @@
 -- `put_blanks`: the invariant is that i blanks are written, the measure is what is left. A turn is one blank more (`wrote_blank`). Assumes nothing.
 use mathlib.Core.List.{List}
-use mathlib.Core.Path.{◌≡◌, refl, subst}
+use mathlib.Core.Path.{◌≡◌}
 use Prim.Native.Nat.{ℕ, ◌+◌, ◌-◌, ◌≤◌}
-use native.Mathlib.Nat.{add-zero}
-use native.Mathlib.Omega.{arith}
-use lib.ListN.{length, length-set}
+use lib.ListN.{length}
 use Rattle.answers.specs.Written.{Wrote}
-use Rattle.answers.specs.WrittenLaws.{wrote_none}
 use Rattle.pages.specs.Pages.{blanks}
-use Rattle.pages.proofs.WritingLaws.{wrote_blank}
 use Rattle.pages.proofs.printing.put_blanks.Given as goal
 
 -- what holds whenever the loop is at its head

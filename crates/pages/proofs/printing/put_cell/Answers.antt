@@ -1,8 +1,6 @@
 -- `put_cell`: from, then to. Assumes nothing.
-use mathlib.Core.Path.{◌≡◌}
 use Prim.Native.Nat.{◌/◌}
 use native.Mathlib.Omega.{arith}
-use lib.ListN.{length}
 use Rattle.answers.specs.WrittenLaws.{wrote_then}
 use Rattle.pages.specs.Pages.{pair_cell}
 use Rattle.pages.specs.LineLaws.{length_record}

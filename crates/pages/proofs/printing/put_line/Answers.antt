@@ -1,7 +1,5 @@
 -- `put_line`: a head, or the next six pairs (`laid_head`, `laid_pairs`). Assumes nothing.
-use mathlib.Core.Path.{◌≡◌, refl, sym}
 use native.Mathlib.Omega.{arith}
-use lib.ListN.{length}
 use Rattle.pages.specs.Lines.{held}
 use Rattle.pages.proofs.LayoutLaws.{laid_head, laid_pairs}
 use Rattle.pages.proofs.printing.put_line.Goals as goal

@@ -1,14 +1,13 @@
 -- `put_pages`: the loop's invariant is that the lines before line i are laid, and the pairs of the others are ahead of `place`; the measure is how many lines
 -- are left. In the end the lines are the pages (`pages_lines`). Assumes nothing.
-use mathlib.Core.List.{List}
 use mathlib.Core.Path.{◌≡◌, refl, ap, sym, subst, ◌∙◌}
-use Prim.Native.Nat.{ℕ, ◌+◌, ◌-◌, ◌*◌, ◌≤◌}
+use Prim.Native.Nat.{ℕ, ◌+◌, ◌*◌}
 use native.Mathlib.Omega.{arith}
-use lib.ListN.{length, drop}
+use lib.ListN.{length}
 use Rattle.answers.specs.Written.{Wrote}
 use Rattle.answers.specs.WrittenLaws.{wrote_none, wrote_as, wrote_then}
 use Rattle.pages.specs.Pages.{joined, pages}
-use Rattle.pages.specs.Lines.{pair_words, held, pairs_held, pairs_before, lines_of, line_of, ahead}
+use Rattle.pages.specs.Lines.{held, pairs_held, pairs_before, lines_of, line_of}
 use Rattle.pages.specs.LineLaws.{joined_next, pages_lines, lines_most}
 use Rattle.pages.proofs.LayoutLaws.{all_ahead, all_few}
 use Rattle.pages.proofs.ReadingLaws.{wrote_front}

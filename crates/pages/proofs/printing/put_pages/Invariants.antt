@@ -1,17 +1,12 @@
 -- `put_pages`: the loop's invariant is that the lines before line i are laid, and the pairs of the others are ahead of `place`; the measure is how many lines
 -- are left. In the end the lines are the pages (`pages_lines`). Assumes nothing.
 use mathlib.Core.List.{List}
-use mathlib.Core.Path.{◌≡◌, refl, ap, sym, subst, ◌∙◌}
-use Prim.Native.Nat.{ℕ, ◌+◌, ◌-◌, ◌*◌, ◌≤◌}
-use native.Mathlib.Omega.{arith}
+use mathlib.Core.Path.{◌≡◌}
+use Prim.Native.Nat.{ℕ, ◌-◌, ◌*◌, ◌≤◌}
 use lib.ListN.{length, drop}
 use Rattle.answers.specs.Written.{Wrote}
-use Rattle.answers.specs.WrittenLaws.{wrote_none, wrote_as, wrote_then}
-use Rattle.pages.specs.Pages.{joined, pages}
-use Rattle.pages.specs.Lines.{pair_words, held, pairs_held, pairs_before, lines_of, line_of, ahead}
-use Rattle.pages.specs.LineLaws.{joined_next, pages_lines, lines_most}
-use Rattle.pages.proofs.LayoutLaws.{all_ahead, all_few}
-use Rattle.pages.proofs.ReadingLaws.{wrote_front}
+use Rattle.pages.specs.Pages.{joined}
+use Rattle.pages.specs.Lines.{pair_words, held, pairs_held, pairs_before, line_of, ahead}
 use Rattle.pages.proofs.printing.put_pages.Given as goal
 
 -- what holds whenever the loop is at its head

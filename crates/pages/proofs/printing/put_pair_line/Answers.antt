@@ -1,11 +1,10 @@
 -- `put_pair_line`: the loop's invariant is that the cells of the first i words are written, 12 bytes each; the measure is the number of words left. Then blanks
 -- and the line feed (`wrote_pairs`). Assumes nothing.
-use mathlib.Core.List.{List}
 use mathlib.Core.Path.{◌≡◌, refl, subst, ◌∙◌}
-use Prim.Native.Nat.{ℕ, ◌+◌, ◌-◌, ◌*◌, ◌≤◌}
+use Prim.Native.Nat.{ℕ}
 use native.Mathlib.Omega.{arith}
-use lib.ListN.{length, take, get_or, length-replicate}
-use Rattle.report.specs.Report.{space, lines}
+use lib.ListN.{take, get_or}
+use Rattle.report.specs.Report.{lines}
 use Rattle.report.proofs.ReportLaws.{wrote_line}
 use Rattle.answers.specs.Written.{Wrote}
 use Rattle.answers.specs.WrittenLaws.{wrote_none}

@@ -1,17 +1,12 @@
 -- `put_pair_line`: the loop's invariant is that the cells of the first i words are written, 12 bytes each; the measure is the number of words left. Then blanks
 -- and the line feed (`wrote_pairs`). Assumes nothing.
 use mathlib.Core.List.{List}
-use mathlib.Core.Path.{◌≡◌, refl, subst, ◌∙◌}
+use mathlib.Core.Path.{◌≡◌}
 use Prim.Native.Nat.{ℕ, ◌+◌, ◌-◌, ◌*◌, ◌≤◌}
-use native.Mathlib.Omega.{arith}
-use lib.ListN.{length, take, get_or, length-replicate}
-use Rattle.report.specs.Report.{space, lines}
-use Rattle.report.proofs.ReportLaws.{wrote_line}
+use lib.ListN.{length, take}
+use Rattle.report.specs.Report.{lines}
 use Rattle.answers.specs.Written.{Wrote}
-use Rattle.answers.specs.WrittenLaws.{wrote_none}
 use Rattle.pages.specs.Pages.{pair_cell}
-use Rattle.pages.specs.LineLaws.{length_cell}
-use Rattle.pages.proofs.WritingLaws.{wrote_pairs}
 use Rattle.pages.proofs.printing.put_pair_line.Given as goal
 
 -- what holds whenever the loop is at its head

@@ -1,7 +1,5 @@
 -- `put_record`: the number, and a blank. Assumes nothing.
-use mathlib.Core.Path.{◌≡◌}
 use native.Mathlib.Omega.{arith}
-use lib.ListN.{length}
 use Rattle.answers.specs.WrittenLaws.{wrote_then}
 use Rattle.pages.specs.Pages.{record_cell}
 use Rattle.pages.specs.LineLaws.{record_figures, length_right}

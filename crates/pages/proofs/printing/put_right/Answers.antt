@@ -1,9 +1,6 @@
 -- `put_right`: blanks up to the figures, and the figures. Assumes nothing.
-use mathlib.Core.Path.{◌≡◌, ap}
+use mathlib.Core.Path.{ap}
 use Prim.Native.Nat.{ℕ, ◌-◌}
-use native.Mathlib.Omega.{arith}
-use lib.ListN.{length, length-replicate}
-use Rattle.report.specs.Report.{space}
 use Rattle.answers.specs.WrittenLaws.{wrote_then, wrote_as}
 use Rattle.pages.specs.Pages.{blanks, right_aligned}
 use Rattle.pages.proofs.printing.put_right.Goals as goal

@@ -1,14 +1,10 @@
 -- `cells_at`: the loop's invariant is that the words of the line are the k found, and then those of the cells from cell k on; the measure is how many cells are
 -- left. A turn is one cell more (`cells_next`), a blank cell the end (`cells_end`). Assumes nothing.
-use mathlib.Core.Path.{◌≡◌, refl, ap, sym, ◌∙◌}
-use mathlib.Core.List.{List, [], ◌∷◌, ◌++◌, append-nil, append_assoc}
-use Prim.Native.Nat.{ℕ, ◌+◌, ◌-◌, ◌*◌, ◌≤◌, ◌<◌}
-use native.Mathlib.Numerals.{add-one}
-use native.Mathlib.Omega.{arith}
-use lib.ListN.{length, take, drop, set, length-set}
-use lib.Seq.{take-suc-set}
+use mathlib.Core.Path.{◌≡◌}
+use mathlib.Core.List.{List, ◌++◌}
+use Prim.Native.Nat.{ℕ, ◌+◌, ◌-◌, ◌*◌, ◌≤◌}
+use lib.ListN.{length, take, drop}
 use Rattle.pages.specs.Lines.{cell_words}
-use Rattle.pages.proofs.ReadingLaws.{cells_end, cells_next}
 use Rattle.pages.proofs.reading.cells_at.Given as goal
 
 -- what holds whenever the loop is at its head

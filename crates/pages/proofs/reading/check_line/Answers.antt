@@ -2,11 +2,11 @@
 use mathlib.Core.List.{List}
 use mathlib.Core.Path.{◌≡◌, subst}
 use mathlib.Core.Bool.{Bool, true, false}
-use Prim.Native.Nat.{ℕ, ◌*◌, ◌≤◌}
+use Prim.Native.Nat.{ℕ, ◌≤◌}
 use native.Mathlib.Omega.{arith}
-use lib.ListN.{length, take, drop}
+use lib.ListN.{length, take}
 use lib.Seq.{length-take-le}
-use Rattle.pages.specs.Lines.{cell_words, Line}
+use Rattle.pages.specs.Lines.{Line}
 use Rattle.pages.proofs.CheckLaws.{rising_small, head_stands, head_falls, short_falls, rising_falls, line_falls, line_stands}
 use Rattle.pages.proofs.reading.check_line.Goals as goal
 

@@ -1,7 +1,5 @@
 -- `is_head`: the line is laid beside the pages (`wrote_line`), and compared. Assumes nothing.
-use mathlib.Core.Path.{◌≡◌, refl, sym, ◌∙◌}
-use native.Mathlib.Omega.{arith}
-use lib.ListN.{length}
+use mathlib.Core.Path.{◌≡◌, sym, ◌∙◌}
 use Rattle.pages.specs.Pages.{head_line}
 use Rattle.pages.specs.LineLaws.{length_head_line}
 use Rattle.pages.proofs.WritingLaws.{wrote_whole}

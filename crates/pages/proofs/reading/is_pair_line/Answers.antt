@@ -1,7 +1,7 @@
 -- `is_pair_line`: the line is laid beside the pages (`wrote_line`), and compared. Assumes nothing.
-use mathlib.Core.Path.{◌≡◌, refl, sym, ◌∙◌}
+use mathlib.Core.Path.{◌≡◌, sym, ◌∙◌}
 use native.Mathlib.Omega.{arith}
-use lib.ListN.{length, take}
+use lib.ListN.{take}
 use lib.Seq.{length-take-le}
 use Rattle.pages.specs.Pages.{pair_line}
 use Rattle.pages.specs.LineLaws.{length_pair_line}

@@ -1,13 +1,12 @@
 -- `judge`: the loop's invariant is that every line before line i stands, `count` is the number of pairs on them and `low` the number after the
 -- last; the measure is how many lines are left. Pages have no line that falls (`bad_line`), and lines that all stand, as many as their pairs
 -- take, are pages (`good_lines`). Assumes nothing.
-use mathlib.Core.List.{List}
 use mathlib.Core.Path.{◌≡◌, refl, ap, sym, subst, ◌∙◌}
-use Prim.Native.Nat.{ℕ, ◌-◌, ◌*◌, ◌/◌, ◌≤◌, ◌<◌}
+use Prim.Native.Nat.{ℕ, ◌/◌}
 use native.Mathlib.Omega.{arith}
 use lib.ListN.{length}
 use Rattle.pages.specs.Pages.{joined}
-use Rattle.pages.specs.Lines.{pair_words, lines_of, words_at, words_before, after, Stands, Judged}
+use Rattle.pages.specs.Lines.{lines_of, words_at, words_before, after, Stands, Judged}
 use Rattle.pages.specs.declared.reading.Judgement.TheVariants.{Listing}
 use Rattle.pages.specs.ReadLaws.{words_few}
 use Rattle.pages.proofs.CheckLaws.{line_not, line_yes, bad_size, bad_most, bad_line, bad_lines, few_pairs, good_lines, before_next, stand_next}

@@ -2,15 +2,10 @@
 -- last; the measure is how many lines are left. Pages have no line that falls (`bad_line`), and lines that all stand, as many as their pairs
 -- take, are pages (`good_lines`). Assumes nothing.
 use mathlib.Core.List.{List}
-use mathlib.Core.Path.{◌≡◌, refl, ap, sym, subst, ◌∙◌}
-use Prim.Native.Nat.{ℕ, ◌-◌, ◌*◌, ◌/◌, ◌≤◌, ◌<◌}
-use native.Mathlib.Omega.{arith}
+use mathlib.Core.Path.{◌≡◌}
+use Prim.Native.Nat.{ℕ, ◌-◌, ◌*◌, ◌≤◌, ◌<◌}
 use lib.ListN.{length}
-use Rattle.pages.specs.Pages.{joined}
-use Rattle.pages.specs.Lines.{pair_words, lines_of, words_at, words_before, after, Stands, Judged}
-use Rattle.pages.specs.declared.reading.Judgement.TheVariants.{Listing}
-use Rattle.pages.specs.ReadLaws.{words_few}
-use Rattle.pages.proofs.CheckLaws.{line_not, line_yes, bad_size, bad_most, bad_line, bad_lines, few_pairs, good_lines, before_next, stand_next}
+use Rattle.pages.specs.Lines.{pair_words, words_before, after, Stands}
 use Rattle.pages.proofs.reading.judge.Given as goal
 
 -- what holds whenever the loop is at its head

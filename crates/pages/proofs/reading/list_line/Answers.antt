@@ -1,8 +1,7 @@
 -- `list_line`: a head has no pairs, a pair line those of its cells. Assumes nothing.
-use mathlib.Core.Path.{◌≡◌, refl, ap, sym, ◌∙◌}
+use mathlib.Core.Path.{◌≡◌, ap, sym, ◌∙◌}
 use native.Mathlib.Omega.{arith}
 use lib.ListN.{length, take}
-use lib.Seq.{length-take-le}
 use Rattle.answers.specs.WrittenLaws.{wrote_none, wrote_as}
 use Rattle.pages.specs.Lines.{words_at}
 use Rattle.pages.specs.ReadLaws.{words_head, words_pairs}

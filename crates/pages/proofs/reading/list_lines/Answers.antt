@@ -1,9 +1,7 @@
 -- `list_lines`: the loop's invariant is that the words of the first i lines are written; the measure is how many lines are left. Assumes nothing.
-use mathlib.Core.List.{List}
 use mathlib.Core.Path.{◌≡◌, refl, sym, subst, ◌∙◌}
-use Prim.Native.Nat.{ℕ, ◌-◌, ◌≤◌}
+use Prim.Native.Nat.{ℕ}
 use native.Mathlib.Omega.{arith}
-use lib.ListN.{length}
 use Rattle.answers.specs.Written.{Wrote}
 use Rattle.answers.specs.WrittenLaws.{wrote_none, wrote_as, wrote_then}
 use Rattle.pages.specs.Pages.{joined}

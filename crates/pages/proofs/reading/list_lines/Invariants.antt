@@ -1,15 +1,10 @@
 -- `list_lines`: the loop's invariant is that the words of the first i lines are written; the measure is how many lines are left. Assumes nothing.
 use mathlib.Core.List.{List}
-use mathlib.Core.Path.{◌≡◌, refl, sym, subst, ◌∙◌}
+use mathlib.Core.Path.{◌≡◌}
 use Prim.Native.Nat.{ℕ, ◌-◌, ◌≤◌}
-use native.Mathlib.Omega.{arith}
 use lib.ListN.{length}
 use Rattle.answers.specs.Written.{Wrote}
-use Rattle.answers.specs.WrittenLaws.{wrote_none, wrote_as, wrote_then}
-use Rattle.pages.specs.Pages.{joined}
-use Rattle.pages.specs.Lines.{words_at, words_before}
-use Rattle.pages.specs.LineLaws.{joined_next}
-use Rattle.pages.proofs.ReadingLaws.{wrote_front, joined_fits}
+use Rattle.pages.specs.Lines.{words_before}
 use Rattle.pages.proofs.reading.list_lines.Given as goal
 
 -- what holds whenever the loop is at its head

@@ -1,7 +1,7 @@
 -- `record_at`: the loop's invariant is that v is the value of the first i bytes; the measure is how many are left. A turn is one figure more (`value_more`).
 -- Assumes nothing.
 use mathlib.Core.Path.{◌≡◌, refl, ap, ◌∙◌}
-use Prim.Native.Nat.{ℕ, ◌-◌, ◌≤◌}
+use Prim.Native.Nat.{ℕ}
 use native.Mathlib.Omega.{arith}
 use lib.ListN.{take, drop, length-drop}
 use lib.Seq.{get_or-drop}

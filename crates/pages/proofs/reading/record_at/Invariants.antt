@@ -1,12 +1,9 @@
 -- `record_at`: the loop's invariant is that v is the value of the first i bytes; the measure is how many are left. A turn is one figure more (`value_more`).
 -- Assumes nothing.
-use mathlib.Core.Path.{◌≡◌, refl, ap, ◌∙◌}
-use Prim.Native.Nat.{ℕ, ◌-◌, ◌≤◌}
-use native.Mathlib.Omega.{arith}
-use lib.ListN.{take, drop, length-drop}
-use lib.Seq.{get_or-drop}
-use Rattle.pages.specs.Lines.{value_from, value}
-use Rattle.pages.proofs.ReadingLaws.{value_more, record_small}
+use mathlib.Core.Path.{◌≡◌}
+use Prim.Native.Nat.{◌-◌, ◌≤◌}
+use lib.ListN.{take, drop}
+use Rattle.pages.specs.Lines.{value}
 use Rattle.pages.proofs.reading.record_at.Given as goal
 
 abbrev pub invariant-loop-i : goal.invariant-loop-i

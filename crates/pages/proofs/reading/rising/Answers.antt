@@ -1,8 +1,7 @@
 -- `rising`: the loop's invariant is that the first i words ascend, and `next` is the number after them; the measure is how many are left. A turn is one word
 -- more (`rising-more`); a word that does not ascend is one that no ascending list has (`rising_not`). Assumes nothing.
-use mathlib.Core.List.{List}
 use mathlib.Core.Path.{◌≡◌, refl, ap, sym, subst, ◌∙◌}
-use Prim.Native.Nat.{ℕ, ◌-◌, ◌≤◌}
+use Prim.Native.Nat.{ℕ}
 use native.Mathlib.Omega.{arith}
 use lib.ListN.{take}
 use Rattle.k2.specs.PairSetLaws.{Within, ends}

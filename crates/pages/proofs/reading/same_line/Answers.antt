@@ -1,11 +1,10 @@
 -- `same_line`: the loop's invariant is that the first i bytes are the same; the measure is how many are left. Assumes nothing.
-use mathlib.Core.Path.{◌≡◌, refl, ap, ap₂, sym, subst, ◌∙◌}
-use mathlib.Core.List.{List, [], ◌∷◌, ◌++◌}
-use Prim.Native.Nat.{ℕ, ◌-◌, ◌≤◌}
-use native.Mathlib.Numerals.{add-one}
+use mathlib.Core.Path.{◌≡◌, ap, sym, ◌∙◌}
+use mathlib.Core.List.{List}
+use Prim.Native.Nat.{ℕ}
 use native.Mathlib.Omega.{arith}
-use lib.ListN.{take, drop, get_or, length-drop}
-use lib.Seq.{take-suc, take_all, get_or-drop, get_or-take}
+use lib.ListN.{drop, get_or}
+use lib.Seq.{get_or-drop, get_or-take}
 use Rattle.pages.proofs.reading.same_line.Goals as goal
 
 pub returns-then-pages-at : goal.returns-then-pages-at

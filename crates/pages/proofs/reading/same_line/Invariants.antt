@@ -1,11 +1,7 @@
 -- `same_line`: the loop's invariant is that the first i bytes are the same; the measure is how many are left. Assumes nothing.
-use mathlib.Core.Path.{◌≡◌, refl, ap, ap₂, sym, subst, ◌∙◌}
-use mathlib.Core.List.{List, [], ◌∷◌, ◌++◌}
-use Prim.Native.Nat.{ℕ, ◌-◌, ◌≤◌}
-use native.Mathlib.Numerals.{add-one}
-use native.Mathlib.Omega.{arith}
-use lib.ListN.{take, drop, get_or, length-drop}
-use lib.Seq.{take-suc, take_all, get_or-drop, get_or-take}
+use mathlib.Core.Path.{◌≡◌}
+use Prim.Native.Nat.{◌-◌, ◌≤◌}
+use lib.ListN.{take, drop}
 use Rattle.pages.proofs.reading.same_line.Given as goal
 
 abbrev pub invariant-loop-i : goal.invariant-loop-i
