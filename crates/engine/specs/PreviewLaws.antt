@@ -16,7 +16,8 @@ use Rattle.book.proofs.BookLaws.{caused_positive}
 use Rattle.answers.specs.declared.Counted.{Counted}
 use Rattle.answers.specs.declared.Counted.TheVariants.{Refused}
 use Rattle.paths.specs.Verdicts.{verdict}
-use Rattle.paths.specs.Questions.{refused, Outcome as Question-as-Outcome, by_trees, by_rows, unless, pairs_work, rows_work, pairs_answer, list_after, count_of, Tells}
+use Rattle.paths.specs.Questions.{refused, Outcome as Question-as-Outcome, by_trees, by_rows, unless, pairs_work, rows_work, pairs_answer, list_after, count_of}
+use Rattle.paths.specs.Questions.{Tells}
 use Rattle.register.specs.Representation.{Represents}
 use Rattle.register.specs.Calls.{answer_number, Steps}
 use Rattle.register.specs.HistoryLaws.{number_answer, by_number}

@@ -1,6 +1,8 @@
 // The dating register: this crate has the calls that programs make. A register is a value: an edit hands the next one back, and a question changes nothing.
 // Every call takes any contents and any arguments, and what it promises is the whole of what it does: the answer, and everything that it was lent.
 // previews.rt has the preview of an edit, drafts.rt a list of edits made all or none; the questions and the tree calls are those of the crates below.
+#![tactic(auto)]
+
 mod drafts;
 mod previews;
 
@@ -148,7 +150,7 @@ pub fn total(register: Register, label: u8) -> Counted
 }
 
 // What a history and the questions asked after it gave.
-#[derive(Drop)]
+#[derive(Clone, Copy)]
 pub struct Inquiry {
     pub answer: Answer,
     pub size: usize,
@@ -160,7 +162,7 @@ pub struct Inquiry {
 }
 
 // The records between which a chain is asked for.
-#[derive(Drop)]
+#[derive(Clone, Copy)]
 pub struct Ends {
     pub from: u16,
     pub to: u16,

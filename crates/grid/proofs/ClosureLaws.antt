@@ -153,7 +153,8 @@ settled_next n a c d x all keeps new u l = go (ℕ_discrete u x)
 pub half_all : (n w : ℕ) (a : Cells) (c : ℕ → ℕ) (ws ms : List ℕ) → IsSet n a → ((u : ℕ) → c u < 2) → Half n a c (first_rows w ws ms)
     → ((u : ℕ) → u < n → Settled n a c u) → first n w ws ms ≡ closure n a
 half_all n w a c ws ms A cb H all =
-    within_same n (first_rows w ws ms) (closure n a) (λ u y ul l. go u y ul l (ℕ_discrete (c u) 1) (all u ul)) ∙ within_set n (closure n a) (closure_set n n a A)
+    within_same n (first_rows w ws ms) (closure n a) (λ u y ul l. go u y ul l (ℕ_discrete (c u) 1) (all u ul)) ∙
+    within_set n (closure n a) (closure_set n n a A)
   where
     go : (u y : ℕ) → u < n → y < n → Dec (c u ≡ 1) → Settled n a c u → first_rows w ws ms u y ≡ closure n a u y
     go u y ul l (yes h) s = H.whole u y ul l h

@@ -83,7 +83,8 @@ module _ (n w i b : ℕ) (new : Cells) (ws ms ws' ms' : List ℕ) (il : i < n) (
       go x y h l (yes q) = rw (q, ← at) (R.row y l ∙ e y l)
       go x y h l (no q) =
           let z : x < i = omega (arith, q) in
-          row_same ws'' ws' (x * w) (get_or ms'' x 0) (get_or ms' x 0) y (R.masks x q (omega arith)) (R.below (x * w + y / 64) (omega (arith, rows_apart x i w z)))
+          row_same ws'' ws' (x * w) (get_or ms'' x 0) (get_or ms' x 0) y (R.masks x q (omega arith))
+          (R.below (x * w + y / 64) (omega (arith, rows_apart x i w z)))
           ∙ T.done x y z l
 
   -- a row that stays

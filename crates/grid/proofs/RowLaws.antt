@@ -168,7 +168,8 @@ joined_all w t b f c m s ws ws' ms wc tl e J = record {
     keeps : (d g o v x m' : ℕ) → m' ≡ max d g → g ≡ 0 → x ≡ o → min m' x ≡ max (min d o) (min g v)
     keeps d g o v x m' a b e = omega arith
 
-    shown : (y : ℕ) → min (digit m' (y / 64)) (digit (get_or ws' (b + y / 64) 0) (y % 64)) ≡ max (min (digit m (y / 64)) (old y)) (min (digit s (y / 64)) (new y))
+    shown : (y : ℕ) → min (digit m' (y / 64)) (digit (get_or ws' (b + y / 64) 0) (y % 64)) ≡
+        max (min (digit m (y / 64)) (old y)) (min (digit s (y / 64)) (new y))
         → row_of ws' b m' y ≡ max (row_of ws b (get_or ms t 0) y) (row_of ws f s y)
     shown y q = unfold row_of in (rw (← e) q)
 

@@ -398,7 +398,8 @@ module _ (n w x z : ℕ) (c v : ℕ → ℕ) (ws ms ws' ms' ws'' ms'' : List ℕ
         go a A H cx S (yes e) d =
             search_plain n a A x z zl _ _ _ _ (first_rows w ws' ms' z) (first_bit w ws' ms' x) vb (first_bit w ws' ms' z) S found
             row_is (seen_plain (ap c e ∙ cx))
-            (λ y l h. left_one (first_rows w ws' ms' x y) (first_rows w ws' ms' z y) (first_bit w ws' ms' z y) (S.start y l (ap (λ (k : ℕ). a k y) (sym e) ∙ h)))
+            (λ y l h. left_one (first_rows w ws' ms' x y) (first_rows w ws' ms' z y) (first_bit w ws' ms' z y)
+            (S.start y l (ap (λ (k : ℕ). a k y) (sym e) ∙ h)))
             (λ y l h. S.sound y l (ap (λ (k : ℕ). first_rows w ws' ms' k y) (sym e) ∙ h))
         go a A H cx S (no e) (yes d) =
             search_whole n a A x z zl _ _ _ _ (first_rows w ws' ms' z) (first_bit w ws' ms' x) vb (first_bit w ws' ms' z) S found

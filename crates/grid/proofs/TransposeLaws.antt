@@ -222,7 +222,8 @@ module _ (n w : ℕ) (ws ms : List ℕ) where
       go : (u v : ℕ) → Dec (u < n) → Dec (v < n)
           → within n (λ i j. rows_below n (first_rows w ws ms) j i) v u ≡ within n (first_rows w ws ms) u v
       go u v (yes a) (yes b) =
-          within_in n (λ i j. rows_below n (first_rows w ws ms) j i) v u b a ∙ rows_in n (first_rows w ws ms) u v a ∙ sym (within_in n (first_rows w ws ms) u v a b)
+          within_in n (λ i j. rows_below n (first_rows w ws ms) j i) v u b a ∙ rows_in n (first_rows w ws ms) u v a ∙
+          sym (within_in n (first_rows w ws ms) u v a b)
       go u v (no a) b =
           within_column n (λ i j. rows_below n (first_rows w ws ms) j i) v u (omega arith) ∙ sym (within_row n (first_rows w ws ms) u v (omega arith))
       go u v (yes a) (no b) =

@@ -4,6 +4,8 @@
 //
 // words.rt has the bits of one word, row.rt one row, putting.rt pairs put into a relation, algebra.rt union, product and transposition, closing.rt the
 // closure, listing.rt the list, counting.rt how many pairs there are, spreading.rt the relation as rows of 1,024 bits.
+#![tactic(auto)]
+
 mod algebra;
 mod closing;
 mod counting;

@@ -105,10 +105,10 @@ pub record Top (n : ℕ) (ws work : List ℕ) (os : List Operand) (j at : ℕ) (
   pub long : (operand_at os j).size ≡ length (tree_words n a)
   pub below : Standing n ws work os j (at - (operand_at os j).size) others
 
-pub standing_top : {n k at : ℕ} {ws work : List ℕ} {os : List Operand} {st : List Cells}
+top_of : {n : ℕ} {ws work : List ℕ} {os : List Operand} {k at : ℕ} {st : List Cells}
     → Standing n ws work os k at st → (j : ℕ) → k ≡ suc j → Top n ws work os j at st
-standing_top none_waits j e = absurd (omega arith)
-standing_top {n} {ws = ws} {work} {os} (one_waits {k} {at} {st} a s p t l) j e =
+top_of none_waits j e = absurd (omega arith)
+top_of {n} {ws} {work} {os} (one_waits {k} {at} {st} a s p t l) j e =
     let z : k ≡ j = omega arith in
     subst (λ (i : ℕ). Top n ws work os i (at + (operand_at os k).size) (valued ws (operand_at os k) a ∷ st)) z
     (let q : at + (operand_at os k).size - (operand_at os k).size ≡ at = omega arith in record {
@@ -122,6 +122,10 @@ standing_top {n} {ws = ws} {work} {os} (one_waits {k} {at} {st} a s p t l) j e =
       below = rw q s;
     })
 
+pub standing_top : {n k at : ℕ} {ws work : List ℕ} {os : List Operand} {st : List Cells}
+    → Standing n ws work os k at st → (j : ℕ) → k ≡ suc j → Top n ws work os j at st
+standing_top s j e = top_of s j e
+
 -- a tree lies before the word `at` whatever stands behind it
 inside : (k b at : ℕ) (l : List ℕ) → b + k ≤ at → take k (drop b (take at l)) ≡ take k (drop b l)
 inside k zero at l h = take-take k at l (omega arith)
@@ -132,20 +136,29 @@ inside k (suc b) (suc at) (x ∷ l) h = inside k b at l (omega arith)
 front_tree : (k b at : ℕ) (work work' : List ℕ) → b + k ≤ at → take at work' ≡ take at work → take k (drop b work') ≡ take k (drop b work)
 front_tree k b at work work' h e = sym (inside k b at work' h) ∙ ap (λ (l : List ℕ). take k (drop b l)) e ∙ inside k b at work h
 
+kept_of : {n : ℕ} {ws work work' : List ℕ} {os : List Operand} {k at : ℕ} {st : List Cells}
+    → Standing n ws work os k at st → (top : ℕ) → at ≤ top → take top work' ≡ take top work
+    → Standing n ws work' os k at st
+kept_of none_waits top h e = none_waits
+kept_of {n} {ws} {work} {work'} {os} (one_waits {k} {at} {st} a s p t l) top h e =
+    one_waits a (kept_of s top (omega arith) e) p (front_tree (operand_at os k).size at top work work' h e ∙ t) l
+
 pub standing_kept : {n k at : ℕ} {ws work work' : List ℕ} {os : List Operand} {st : List Cells}
     → Standing n ws work os k at st → (top : ℕ) → at ≤ top → take top work' ≡ take top work
     → Standing n ws work' os k at st
-standing_kept none_waits top h e = none_waits
-standing_kept {work = work} {work'} {os} (one_waits {k} {at} a s p t l) top h e =
-    one_waits a (standing_kept s top (omega arith) e) p (front_tree (operand_at os k).size at top work work' h e ∙ t) l
+standing_kept s top h e = kept_of s top h e
+
+store_of : {n : ℕ} {ws work : List ℕ} {os : List Operand} {k at : ℕ} {st : List Cells} (j : ℕ) (o : Operand)
+    → k ≤ j → Standing n ws work os k at st → Standing n ws work (set os j o) k at st
+store_of j o h none_waits = none_waits
+store_of {n} {ws} {work} {os} j o h (one_waits {k} {at} {st} a s p t l) =
+    let e : operand_at (set os j o) k ≡ operand_at os k = get_or-set_other os j k o nothing (λ z. omega arith) in
+    subst (λ (x : Operand). Standing n ws work (set os j o) (suc k) (at + x.size) (valued ws x a ∷ st)) e
+    (one_waits a (store_of j o (omega arith) s) p (rw e t) (rw e l))
 
 pub standing_store : {n k at : ℕ} {ws work : List ℕ} {os : List Operand} {st : List Cells} (j : ℕ) (o : Operand)
     → k ≤ j → Standing n ws work os k at st → Standing n ws work (set os j o) k at st
-standing_store j o h none_waits = none_waits
-standing_store {n} {ws = ws} {work} {os} j o h (one_waits {k} {at} {st} a s p t l) =
-    let e : operand_at (set os j o) k ≡ operand_at os k = get_or-set_other os j k o nothing (λ z. omega arith) in
-    subst (λ (x : Operand). Standing n ws work (set os j o) (suc k) (at + x.size) (valued ws x a ∷ st)) e
-    (one_waits a (standing_store j o (omega arith) s) p (rw e t) (rw e l))
+standing_store j o h s = store_of j o h s
 
 -- an operand put on top of st
 pub standing_put : (n : ℕ) (ws work : List ℕ) (os : List Operand) (j at : ℕ) (o : Operand) (a : Cells) (st : List Cells)

@@ -17,22 +17,29 @@ use Rattle.tree.specs.declared.operations.Operand.{Operand}
 use Rattle.tree.specs.Inner.{nothing}
 use Rattle.pairs.specs.Evaluation.{operand_at, Totals, no_words, more_words, Placed, Room}
 
-pub totals_below : {d k at : ℕ} {os : List Operand} → Totals d os k at → (j : ℕ) → k ≡ suc j
+below_of : {d : ℕ} {os : List Operand} {k at : ℕ} → Totals d os k at → (j : ℕ) → k ≡ suc j
     → ((operand_at os j).size ≤ at) × ((operand_at os j).size ≤ d) × Totals d os j (at - (operand_at os j).size)
-totals_below no_words j e = absurd (omega arith)
-totals_below {d} {os = os} (more_words {k} {at} t h) j e =
+below_of no_words j e = absurd (omega arith)
+below_of {d} {os} (more_words {k} {at} t h) j e =
     let z : k ≡ j = omega arith in
     subst (λ (i : ℕ). ((operand_at os i).size ≤ at + (operand_at os k).size) × ((operand_at os i).size ≤ d)
     × Totals d os i (at + (operand_at os k).size - (operand_at os i).size)) z
     (omega arith, h, subst (Totals d os k) (let q : at ≡ at + (operand_at os k).size - (operand_at os k).size = omega arith in q) t)
 
-pub totals_most : {d k at : ℕ} {os : List Operand} → Totals d os k at → at ≤ k * d
-totals_most no_words = omega arith
-totals_most {d} (more_words {k} t h) = omega (arith, totals_most t, suc-mul k d)
+pub totals_below : {d k at : ℕ} {os : List Operand} → Totals d os k at → (j : ℕ) → k ≡ suc j
+    → ((operand_at os j).size ≤ at) × ((operand_at os j).size ≤ d) × Totals d os j (at - (operand_at os j).size)
+totals_below t j e = below_of t j e
 
-totals_store : {d k at : ℕ} {os : List Operand} (j : ℕ) (o : Operand) → k ≤ j → Totals d os k at → Totals d (set os j o) k at
+most_of : {d : ℕ} {os : List Operand} {k at : ℕ} → Totals d os k at → at ≤ k * d
+most_of no_words = omega arith
+most_of {d} {os} (more_words {k} {at} t h) = omega (arith, most_of {d = d} {os = os} {k = k} {at = at} t, suc-mul k d)
+
+pub totals_most : {d k at : ℕ} {os : List Operand} → Totals d os k at → at ≤ k * d
+totals_most t = most_of t
+
+totals_store : {d : ℕ} {os : List Operand} {k at : ℕ} (j : ℕ) (o : Operand) → k ≤ j → Totals d os k at → Totals d (set os j o) k at
 totals_store j o h no_words = no_words
-totals_store {d} {os = os} j o h (more_words {k} {at} t b) =
+totals_store {d} {os} j o h (more_words {k} {at} t b) =
     let e : operand_at (set os j o) k ≡ operand_at os k = get_or-set_other os j k o nothing (λ z. omega arith) in
     subst (λ (x : Operand). Totals d (set os j o) (suc k) (at + x.size)) e (more_words (totals_store j o (omega arith) t) (rw e b))
 

@@ -1,5 +1,7 @@
 // Pair questions by trees: the code of an expression is run on a stack of operands, whose k2-trees lie one after another in the lent work. The value of its
 // last number is left in rows of bits, whose pairs are counted and listed. What a question promises is stated in crate query (specs/Asking.antt).
+#![tactic(auto)]
+
 ghost use Rattle.std.specs.Prelude.{◌≡◌, List, ℕ, ◌-◌, ◌<◌, ◌≤◌, length, take};
 ghost use Rattle.book.specs.Book.{Book};
 ghost use Rattle.book.specs.Causes.{max_records};
@@ -20,7 +22,7 @@ use answers::Counted;
 use reader::Item;
 
 // The operands that wait, the first put on in front; how many they are, and where their trees end in the work.
-#[derive(Drop)]
+#[derive(Clone, Copy)]
 struct Stack {
     operands: [tree::Operand; 19],
     count: usize,
@@ -28,7 +30,7 @@ struct Stack {
 }
 
 // An item of the code with the operands that it takes off the stack, as a term; where their trees begin in the work, and how many operands stay.
-#[derive(Drop)]
+#[derive(Clone, Copy)]
 struct Taken {
     term: tree::Term,
     start: usize,
