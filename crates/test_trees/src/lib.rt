@@ -1,5 +1,7 @@
 // Exports the inner tree operations (`rt staticlib test_trees`) to a Rust program that tests and measures them. Each promises what `operate` of crate tree
 // promises of its term (specs/Terms.antt).
+#![tactic(auto)]
+
 ghost use Rattle.std.specs.Prelude.{◌≡◌, [], ◌≤◌, length, take, replicate};
 ghost use Rattle.book.specs.Causes.{max_records};
 ghost use Rattle.k2.specs.Bits.{bit_at};
