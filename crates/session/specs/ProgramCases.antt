@@ -15,7 +15,8 @@ use Rattle.std.specs.Prelude.{◌≡◌, refl, List, [], ◌∷◌, ◌++◌, tr
 use Rattle.std.proofs.Common.{ap, subst, ◌∙◌, arith, leb-true}
 use Rattle.book.specs.Basics.{has, without, tally}
 use Rattle.book.specs.Causes.{number, first_number}
-use Rattle.book.specs.Book.{Call, edit, undo, add, lock, withdraw, touched, causes, edit_answer, edited, turned, undo_answer, undone, answer, next, fresh, after}
+use Rattle.book.specs.Book.{Call, edit, undo, add, lock, withdraw, touched, causes, edit_answer, edited, turned, undo_answer, undone, answer, next, fresh}
+use Rattle.book.specs.Book.{after}
 use Rattle.book.specs.Book.{total, total_number}
 use Rattle.k2.specs.PairSets.{row_pairs, rows_pairs, listed, union, transpose, most, serves, product, via, closure, diagonal}
 use Rattle.k2.specs.Trees.{rise, height, tree_unit}
@@ -31,7 +32,8 @@ use Rattle.paths.proofs.PairLaws.{history_inside, withdrawn_none}
 use Rattle.paths.proofs.ChainOrderLaws.{before}
 use Rattle.paths.proofs.AcceptanceLaws.{parted, many, accepts}
 use Rattle.paths.proofs.FirstChainLaws.{reach, steps_below, before_each, after_each, walks, walks_to, end, best, first_to, chain_to, chain_first}
-use Rattle.report.specs.Report.{bytes, figures, decimal, pair_line, label_letter, sense_sign, step_line, lines, counted, ok_text, refused_text, none_text, pairs_text}
+use Rattle.report.specs.Report.{bytes, figures, decimal, pair_line, label_letter, sense_sign, step_line, lines, counted, ok_text, refused_text, none_text}
+use Rattle.report.specs.Report.{pairs_text}
 use Rattle.report.specs.Report.{chain_text, answer_text, total_text, outcome_text}
 use Rattle.register.specs.History.{kind_call}
 use Rattle.session.specs.Program.{program_words, min_frame, max_frame, number16, two_bytes, frame_of, shape_of, fits, called, taken, decode, Session, unopened}

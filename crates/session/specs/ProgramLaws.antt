@@ -30,7 +30,8 @@ use Rattle.paths.specs.Expressions.{Expr, letters}
 use Rattle.paths.specs.Grammar.{Verdict, accepted, long, outside, large, Judged, verdict_cause}
 use Rattle.paths.specs.Chains.{asked, Reply, none, chain, ChainIs, first_chain}
 use Rattle.paths.specs.Relations.{pairs, cells}
-use Rattle.paths.specs.Questions.{paired, replied, unless, work_for, chain_work, pairs_of, pairs_causes, pairs_answer, steps, ReplyTo, chain_causes, chain_answer}
+use Rattle.paths.specs.Questions.{paired, replied, unless, work_for, chain_work, pairs_of, pairs_causes, pairs_answer, steps, ReplyTo, chain_causes}
+use Rattle.paths.specs.Questions.{chain_answer}
 use Rattle.paths.specs.Questions.{list_after}
 use Rattle.paths.specs.Verdicts.{verdict}
 use Rattle.paths.proofs.VerdictLaws.{verdict_right, accepted_same}
@@ -52,7 +53,8 @@ if_set_length (suc v) w = omega arith
 row_length : (a : Cells) (x m : ℕ) → length (row_pairs a x m) ≤ m
 unfolding row_pairs
 row_length a x zero = omega arith
-row_length a x (suc m) = omega (arith, length-append (row_pairs a x m) (if_set (a x m) (pair_word x m)), row_length a x m, if_set_length (a x m) (pair_word x m))
+row_length a x (suc m) =
+    omega (arith, length-append (row_pairs a x m) (if_set (a x m) (pair_word x m)), row_length a x m, if_set_length (a x m) (pair_word x m))
 
 rows_length : (a : Cells) (n m : ℕ) → length (rows_pairs a n m) ≤ m * n
 unfolding rows_pairs

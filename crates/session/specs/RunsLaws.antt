@@ -29,7 +29,8 @@
 --   looped_answered      such a loop from the start is the program
 -- Assumes nothing.
 use Rattle.std.specs.Prelude.{◌≡◌, refl, Bool, true, false, ℕ, suc, ◌+◌, ◌-◌, ◌≤◌, ◌<◌, drop, replicate}
-use Rattle.std.proofs.Common.{sym, subst, ◌∙◌, add_assoc, arith, drop_of_length-le, take_all, take_at, drop-drop, length-take-le, ltb-true, ltb-false, le-ltb, lt-ltb}
+use Rattle.std.proofs.Common.{sym, subst, ◌∙◌, add_assoc, arith, drop_of_length-le, take_all, take_at, drop-drop, length-take-le, ltb-true, ltb-false, le-ltb}
+use Rattle.std.proofs.Common.{lt-ltb}
 use Rattle.std.proofs.Math.Path.{ap}
 use mathlib.Core.List.{List, [], ◌++◌, append_assoc, append-nil}
 use Rattle.std.proofs.Math.Nat.{zero-add}
@@ -267,7 +268,8 @@ module _ (work : ℕ) where
         ap (λ (j : ℕ). record { state = t.state; read = j; written = w + q.written + t.written; more = t.more }) (add_assoc read q.read t.read)
         ∙ ap (λ (j : ℕ). record { state = t.state; read = read + (q.read + t.read); written = j; more = t.more }) (add_assoc w q.written t.written) in
         subst (λ (r : Ran). RunsOn work st i l k'' out (take (w + q.written) (put_mid w (length m - w) m part) ++ rest) r) (sym sums)
-        (subst (λ (x : List ℕ). RunsOn work st i l k'' out x (and_then (record { state = st'; read = read; written = w; more = true }) (and_then q t))) (sym front)
+        (subst (λ (x : List ℕ). RunsOn work st i l k'' out x (and_then (record { state = st'; read = read; written = w; more = true }) (and_then q t)))
+        (sym front)
         (f k'' (take q.written part ++ rest) (and_then q t) (reads a some rest-run)))
 
 -- what the program tells of how it ended

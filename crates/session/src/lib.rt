@@ -1,5 +1,7 @@
 // One frame of the program: what it says, what it does to the session, and which bytes it prints; and a run over a whole input. turns.rt has what each kind of
 // frame does. What is right is defined in specs/Program.antt.
+#![tactic(auto)]
+
 mod turns;
 
 ghost use Rattle.std.specs.Prelude.{◌≡◌, List, ℕ, ◌≤◌, ◌<◌, length, get_or};
@@ -59,21 +61,21 @@ pub const FRAME_BYTES: usize = MAX_FRAME + 2;
 pub const PRINTED_BYTES: usize = MAX_LINE * (WORDS + 3);
 
 // Whether a register is opened, and the register.
-#[derive(Drop)]
+#[derive(Clone, Copy)]
 pub struct State {
     opened: bool,
     register: Register,
 }
 
 // What a frame hands back: the state after it, and how many bytes it printed.
-#[derive(Drop)]
+#[derive(Clone, Copy)]
 pub struct Framed {
     pub state: State,
     pub written: usize,
 }
 
 // How far a run came: the state then, how many bytes of input it read and of output it printed, and whether there is more to do.
-#[derive(Drop)]
+#[derive(Clone, Copy)]
 pub struct Ran {
     pub state: State,
     pub read: usize,
@@ -82,7 +84,7 @@ pub struct Ran {
 }
 
 // What the body of a kind holds; `Ends` are those of a chain question, with its expression after them.
-#[derive(Drop)]
+#[derive(Clone, Copy)]
 pub enum Shape {
     Empty,
     Record,
@@ -96,7 +98,7 @@ pub enum Shape {
 }
 
 // A frame's request, or what is wrong with the frame. The text of a question stays in the body.
-#[derive(Drop)]
+#[derive(Clone, Copy)]
 pub enum Decoded {
     Open(u16),
     Edit(Call),
