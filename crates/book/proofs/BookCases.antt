@@ -170,15 +170,15 @@ total_3 = refl
 -- ---- closing up, S14
 -- 21 with no record in use, before 13; and nothing changes: an undo takes the latest withdraw back
 close_21 : answers (fresh 2) (withdraws 0 ∷ withdraws 1 ∷ close 2 ∷ close 0 ∷ undo ∷ close 2 ∷ []) ≡ 0 ∷ 0 ∷ 21 ∷ 21 ∷ 0 ∷ 0 ∷ []
-unfolding answers answer next edit_answer first_number number causes edited turned undo_answer undone rank closed_sheet close_causes close_answer closed fresh has
-    without touched
+unfolding answers answer next edit_answer first_number number causes edited turned undo_answer undone rank closed_sheet close_causes close_answer closed fresh
+    has without touched
 close_21 = refl
 
 -- 13 with a list shorter than the old n, however few records are in use; then the new n is the least
 close_13 : answers (fresh 4) (withdraws 1 ∷ withdraws 2 ∷ close 2 ∷ close 3 ∷ close 4 ∷ close 1 ∷ close 2 ∷ close 9 ∷ [])
     ≡ 0 ∷ 0 ∷ 13 ∷ 13 ∷ 0 ∷ 13 ∷ 0 ∷ 0 ∷ []
-unfolding answers answer next edit_answer first_number number causes edited turned undo_answer undone rank closed_sheet close_causes close_answer closed fresh has
-    without touched
+unfolding answers answer next edit_answer first_number number causes edited turned undo_answer undone rank closed_sheet close_causes close_answer closed fresh
+    has without touched
 close_13 = refl
 
 -- the list of each closing up, refused ones too: by ascending old number, 65,535 for a withdrawn record
@@ -196,8 +196,8 @@ close_renamed = refl
 
 -- with nothing withdrawn it renames nothing, and still drops the held edits: an undo straight after gives 8
 close_drops : answers (fresh 2) (locks 1 ∷ close 2 ∷ undo ∷ unlocks 1 ∷ undo ∷ undo ∷ []) ≡ 0 ∷ 0 ∷ 8 ∷ 0 ∷ 0 ∷ 8 ∷ []
-unfolding answers answer next edit_answer first_number number causes edited turned undo_answer undone rank closed_sheet close_causes close_answer closed fresh has
-    without touched
+unfolding answers answer next edit_answer first_number number causes edited turned undo_answer undone rank closed_sheet close_causes close_answer closed fresh
+    has without touched
 close_drops = refl
 
 -- after 257 edits, 256 undos pass and the next gives 8

@@ -68,10 +68,10 @@ by n cs h k q r = all_more (holds (made n cs) (history_inside n h cs) (history_s
 
 -- K1 to K12
 pub k1_to_k12 : All (Met (made 4 links)) table
-unfolding table links bytes verdict read_alternatives alternatives_in letters depth stands_for after next turned edit_answer first_number number causes edited fresh
-    has without asked most crossed_by zero_steps diagonal transpose union serves product via closure cells row_pairs rows_pairs listed pairs parted many accepts
-    before reach steps_below before_each after_each walks walks_to end best first_to chain_to
-    spell step_words quadrant filled quarters keep levels tree_bits rise height backwards
+unfolding table links bytes verdict read_alternatives alternatives_in letters depth stands_for after next turned edit_answer first_number number causes edited
+    fresh has without asked most crossed_by zero_steps diagonal transpose union serves product via closure cells row_pairs rows_pairs listed pairs parted many
+    accepts before reach steps_below before_each after_each walks walks_to end best first_to chain_to spell step_words quadrant filled quarters keep levels
+    tree_bits rise height backwards
 k1_to_k12 =
     let h : 4 ≤ 1024 = omega arith in
     by 4 links h _ refl
@@ -90,9 +90,10 @@ k1_to_k12 =
 
 -- with 3 withdrawn, and reinstated
 pub withdrawn_3 : All (Met (made 4 struck)) struck_table × All (Met (made 4 returned)) returned_table
-unfolding struck_table struck returned_table returned links bytes verdict read_alternatives alternatives_in letters depth stands_for after next turned edit_answer
-    first_number number causes edited fresh has without touched asked most crossed_by zero_steps diagonal transpose union serves product via closure cells
-    row_pairs rows_pairs listed pairs parted many accepts before reach steps_below before_each after_each walks walks_to end best first_to chain_to spell step_words
+unfolding struck_table struck returned_table returned links bytes verdict read_alternatives alternatives_in letters depth stands_for after next turned
+    edit_answer first_number number causes edited fresh has without touched asked most crossed_by zero_steps diagonal transpose union serves product via
+    closure cells row_pairs rows_pairs listed pairs parted many accepts before reach steps_below before_each after_each walks walks_to end best first_to
+    chain_to spell step_words
 withdrawn_3 =
     let h : 4 ≤ 1024 = omega arith in (
       by 4 struck h _ refl
@@ -108,10 +109,10 @@ withdrawn_3 =
 
 -- what looks right and is wrong, and chains as short as one another
 pub others : All (Met (made 3 ring)) ring_table × All (Met (made 4 links)) swapped_table × All (Met (made 4 ties)) ties_table
-unfolding ring_table ring swapped_table links ties_table ties bytes verdict read_alternatives alternatives_in letters depth stands_for after next turned edit_answer
-    first_number number causes edited fresh has without asked most crossed_by zero_steps diagonal transpose union serves product via closure cells row_pairs
-    rows_pairs listed pairs parted many accepts before reach steps_below before_each after_each walks walks_to end
-    best first_to chain_to spell step_words quadrant filled quarters keep levels tree_bits rise height backwards
+unfolding ring_table ring swapped_table links ties_table ties bytes verdict read_alternatives alternatives_in letters depth stands_for after next turned
+    edit_answer first_number number causes edited fresh has without asked most crossed_by zero_steps diagonal transpose union serves product via closure cells
+    row_pairs rows_pairs listed pairs parted many accepts before reach steps_below before_each after_each walks walks_to end best first_to chain_to spell
+    step_words quadrant filled quarters keep levels tree_bits rise height backwards
 others =
     let h : 3 ≤ 1024 = omega arith in
     let i : 4 ≤ 1024 = omega arith in (

@@ -112,12 +112,13 @@ inside : Inside round
 inside = history_inside 4 (omega arith) circle
 
 not_0 : cells round (loop_expr 0 []) 0 0 ≡ 0
-unfolding circle either stands_for after next turned edit_answer first_number number causes edited fresh has without asked most crossed_by union via closure cells
+unfolding circle either stands_for after next turned edit_answer first_number number causes edited fresh has without asked most crossed_by union via closure
+    cells
 not_0 = refl
 
 found : chain_to 2 round (loop_expr 0 []) 1 1 ≡ just (forward 0 2 ∷ forward 0 1 ∷ [])
-unfolding circle either stands_for after next turned edit_answer first_number number causes edited fresh has without asked most crossed_by union via closure cells
-    parted many accepts before reach steps_below before_each after_each walks walks_to end best first_to chain_to spell step_words
+unfolding circle either stands_for after next turned edit_answer first_number number causes edited fresh has without asked most crossed_by union via closure
+    cells parted many accepts before reach steps_below before_each after_each walks walks_to end best first_to chain_to spell step_words
 found = refl
 
 pub smallest_returns : GenerationsAre round (0 ∷ []) (loop (step_words (forward 0 2 ∷ forward 0 1 ∷ [])))

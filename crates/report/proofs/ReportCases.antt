@@ -30,6 +30,6 @@ table =
     (outcome_text (replied none), "none\n") ∷ []
 
 pub lines_printed : map (λ t. t.0) table ≡ map (λ t. bytes t.1) table
-unfolding table bytes number figures decimal label_letter sense_sign pair_line step_line lines counted ok_text none_text refused_text pairs_text chain_text answer_text
-    total_text outcome_text
+unfolding table bytes number figures decimal label_letter sense_sign pair_line step_line lines counted ok_text none_text refused_text pairs_text chain_text
+    answer_text total_text outcome_text
 lines_printed = refl

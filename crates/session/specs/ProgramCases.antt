@@ -105,11 +105,11 @@ unfolding bytes verdict read_alternatives alternatives_in letters depth
 last_right = (verdict_right (bytes "a/b"), asked_last)
 
 pub sample : Prints unopened input output
-unfolding input output two_bytes frame_of bytes number16 shape_of fits kind_call called taken decode open_answer next_session printed answer_text outcome_text ok_text
-    refused_text pairs_text chain_text counted lines pair_line step_line label_letter sense_sign decimal figures number first_number causes edit_answer edited turned
-    undo_answer undone answer next fresh after has without verdict read_alternatives alternatives_in letters depth verdict_cause stands_for asked most crossed_by
-    zero_steps diagonal transpose union serves product via closure cells row_pairs rows_pairs listed pairs pairs_of pairs_causes pairs_answer engine_for
-    steps step_words chain_causes chain_answer rise height tree_unit
+unfolding input output two_bytes frame_of bytes number16 shape_of fits kind_call called taken decode open_answer next_session printed answer_text outcome_text
+    ok_text refused_text pairs_text chain_text counted lines pair_line step_line label_letter sense_sign decimal figures number first_number causes
+    edit_answer edited turned undo_answer undone answer next fresh after has without verdict read_alternatives alternatives_in letters depth verdict_cause
+    stands_for asked most crossed_by zero_steps diagonal transpose union serves product via closure cells row_pairs rows_pairs listed pairs pairs_of
+    pairs_causes pairs_answer engine_for steps step_words chain_causes chain_answer rise height tree_unit
 sample =
     by (drop 3 output) long none refl refl refl tt
     (by (drop 6 output) long none refl refl refl tt
@@ -158,9 +158,9 @@ unfolding verdict read_alternatives alternatives_in
 none_asked = (verdict_right [], λ e h. absurd (outside_none e h))
 
 pub refused_run : Prints unopened faults refusals
-unfolding faults refusals two_bytes frame_of bytes number16 shape_of fits kind_call called taken decode open_answer next_session printed answer_text outcome_text
-    ok_text refused_text counted decimal figures number first_number causes edit_answer edited turned undo_answer undone answer next fresh has without verdict
-    read_alternatives alternatives_in letters depth verdict_cause asked pairs_of pairs_causes pairs_answer engine_for steps chain_causes
+unfolding faults refusals two_bytes frame_of bytes number16 shape_of fits kind_call called taken decode open_answer next_session printed answer_text
+    outcome_text ok_text refused_text counted decimal figures number first_number causes edit_answer edited turned undo_answer undone answer next fresh has
+    without verdict read_alternatives alternatives_in letters depth verdict_cause asked pairs_of pairs_causes pairs_answer engine_for steps chain_causes
     chain_answer
 refused_run =
     by (drop 11 refusals) long none refl refl refl tt
@@ -206,9 +206,9 @@ totals =
     bytes "refused 16\nok\ntotal 0\nok\nok\nrefused 5\ntotal 2\nok\ntotal 1\nok\ntotal 2\ntotal 0\nrefused 3\nrefused 14\n"
 
 pub totalled_run : Prints unopened totalled totals
-unfolding totalled totals two_bytes frame_of bytes number16 shape_of fits kind_call called taken decode open_answer next_session printed answer_text total_text ok_text
-    refused_text counted decimal figures number first_number causes edit_answer edited turned undo_answer undone answer next fresh has without total tally
-    total_number
+unfolding totalled totals two_bytes frame_of bytes number16 shape_of fits kind_call called taken decode open_answer next_session printed answer_text
+    total_text ok_text refused_text counted decimal figures number first_number causes edit_answer edited turned undo_answer undone answer next fresh has
+    without total tally total_number
 totalled_run =
     by (drop 11 totals) long none refl refl refl tt
     (by (drop 14 totals) long none refl refl refl tt
@@ -252,11 +252,11 @@ unfolding number first_number causes edit_answer edited turned undone next fresh
 none_from_1 = (verdict_right (bytes "a*"), λ e h. withdrawn_none _ e 1 1 refl)
 
 pub struck_run : Prints unopened struck uses
-unfolding struck uses two_bytes frame_of bytes number16 shape_of fits kind_call called taken decode open_answer next_session printed answer_text outcome_text ok_text
-    refused_text none_text pairs_text chain_text counted lines pair_line step_line label_letter sense_sign decimal figures number first_number causes edit_answer edited
-    turned undo_answer undone answer next fresh after has without touched verdict read_alternatives alternatives_in letters depth verdict_cause stands_for asked
-    most crossed_by zero_steps diagonal transpose union serves product via closure cells row_pairs rows_pairs listed pairs pairs_of pairs_causes pairs_answer
-    engine_for steps step_words chain_causes chain_answer rise height tree_unit
+unfolding struck uses two_bytes frame_of bytes number16 shape_of fits kind_call called taken decode open_answer next_session printed answer_text outcome_text
+    ok_text refused_text none_text pairs_text chain_text counted lines pair_line step_line label_letter sense_sign decimal figures number first_number causes
+    edit_answer edited turned undo_answer undone answer next fresh after has without touched verdict read_alternatives alternatives_in letters depth
+    verdict_cause stands_for asked most crossed_by zero_steps diagonal transpose union serves product via closure cells row_pairs rows_pairs listed pairs
+    pairs_of pairs_causes pairs_answer engine_for steps step_words chain_causes chain_answer rise height tree_unit
 struck_run =
     by (drop 3 uses) long none refl refl refl tt
     (by (drop 6 uses) long none refl refl refl tt

@@ -1,5 +1,5 @@
 -- Laws of the program's frames: what a frame's promise follows from, case by case.
---   both-ways      a test does not come out both ways
+--   both_ways      a test does not come out both ways
 --   open_none, open_many, open_fine, fresh_fine
 --                  opening with n: 1 for none or more than 64, else accepted
 --   next_size      a call keeps n, or lowers it
