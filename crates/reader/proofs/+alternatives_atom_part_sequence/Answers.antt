@@ -10,25 +10,29 @@ alternatives-loop-q-init t c = looped of_alternatives c.sequence-first.ensures (
 
 pub alternatives-sequence-next-requires : goal.alternatives-sequence-next-requires
 alternatives-sequence-next-requires t c =
-    let turn : Turn of_alternatives c.args.s.now c.args.at c.args.n c.sequence-first.result c.sequence-first.new.code c.loop-q.first c.loop-q.code c.ends_at-q.result =
+    let turn : Turn of_alternatives c.args.s.now c.args.at c.args.n c.sequence-first.result c.sequence-first.new.code
+    c.loop-q.first c.loop-q.code c.ends_at-q.result =
     record { inv = c.loop-q.invariant; comes = sym c.comes_next.ensures ∙ c.loop-q-test.true; spot = c.ends_at-q.ensures } in
     let h = ahead turn in (omega arith, asks_next turn)
 
 pub alternatives-combined-first-requires : goal.alternatives-combined-first-requires
 alternatives-combined-first-requires t c =
-    let turn : Turn of_alternatives c.args.s.now c.args.at c.args.n c.sequence-first.result c.sequence-first.new.code c.loop-q.first c.loop-q.code c.ends_at-q.result =
+    let turn : Turn of_alternatives c.args.s.now c.args.at c.args.n c.sequence-first.result c.sequence-first.new.code
+    c.loop-q.first c.loop-q.code c.ends_at-q.result =
     record { inv = c.loop-q.invariant; comes = sym c.comes_next.ensures ∙ c.loop-q-test.true; spot = c.ends_at-q.ensures } in
     room turn c.sequence-next.ensures c.sequence-next.auto.code
 
 pub alternatives-loop-q-smaller : goal.alternatives-loop-q-smaller
 alternatives-loop-q-smaller t c =
-    let turn : Turn of_alternatives c.args.s.now c.args.at c.args.n c.sequence-first.result c.sequence-first.new.code c.loop-q.first c.loop-q.code c.ends_at-q.result =
+    let turn : Turn of_alternatives c.args.s.now c.args.at c.args.n c.sequence-first.result c.sequence-first.new.code
+    c.loop-q.first c.loop-q.code c.ends_at-q.result =
     record { inv = c.loop-q.invariant; comes = sym c.comes_next.ensures ∙ c.loop-q-test.true; spot = c.ends_at-q.ensures } in
     falls turn c.sequence-next.ensures c.sequence-next.auto.code c.combined-first.ensures
 
 pub alternatives-loop-q-preserved : goal.alternatives-loop-q-preserved
 alternatives-loop-q-preserved t c =
-    let turn : Turn of_alternatives c.args.s.now c.args.at c.args.n c.sequence-first.result c.sequence-first.new.code c.loop-q.first c.loop-q.code c.ends_at-q.result =
+    let turn : Turn of_alternatives c.args.s.now c.args.at c.args.n c.sequence-first.result c.sequence-first.new.code
+    c.loop-q.first c.loop-q.code c.ends_at-q.result =
     record { inv = c.loop-q.invariant; comes = sym c.comes_next.ensures ∙ c.loop-q-test.true; spot = c.ends_at-q.ensures } in
     again turn c.sequence-next.ensures c.sequence-next.auto.code c.combined-first.ensures refl c.combined-first.auto.code
 

@@ -38,7 +38,8 @@ loop-i-preserved c =
       | then-marks-i-ne-WITHDRAWN_MARK w ↦ w.number-is ∙ p.1 l.i (omega (arith, p.3))
           ∙ ap (λ (t : Bool). pick (not t) (rank (in_use ms) l.i) no_number) (sym (ne_eqb (get_or ms l.i 0) withdrawn_mark w.if-marks-i-ne-WITHDRAWN_MARK.true))
       | else-marks-i-ne-WITHDRAWN_MARK w ↦ w.number-is
-          ∙ ap (λ (t : Bool). pick (not t) (rank (in_use ms) l.i) no_number) (sym (eq-eqb (get_or ms l.i 0) withdrawn_mark w.if-marks-i-ne-WITHDRAWN_MARK.false))
+          ∙ ap (λ (t : Bool). pick (not t) (rank (in_use ms) l.i) no_number)
+          (sym (eq-eqb (get_or ms l.i 0) withdrawn_mark w.if-marks-i-ne-WITHDRAWN_MARK.false))
     ] in
     record {
       inside = omega arith;

@@ -44,7 +44,8 @@ decreases-loop-i l = l.count - l.i
 
 abbrev pub invariant-loop-seen : goal.invariant-loop-seen
 invariant-loop-seen l =
-    Loop l.fn.arcs l.fn.predecessors l.fn.enter l.fn.work l.fn.ends.n l.fn.ends.to l.fn.ends.accepting l.work l.seen l.next l.list l.records l.masks l.count l.level
+    Loop l.fn.arcs l.fn.predecessors l.fn.enter l.fn.work l.fn.ends.n l.fn.ends.to l.fn.ends.accepting l.work
+    l.seen l.next l.list l.records l.masks l.count l.level
 
 abbrev pub decreases-loop-seen : goal.decreases-loop-seen
 decreases-loop-seen l = l.fn.ends.n * 64 - ones_below (bit_at l.seen) (l.fn.ends.n * 64)
