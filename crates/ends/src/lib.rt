@@ -1,4 +1,6 @@
 // The ends of one record, every record that a chain leads to from it, and its starts, from which one leads to it.
+#![tactic(auto)]
+
 ghost use Rattle.std.specs.Prelude.{◌≡◌, List, ℕ, ◌≤◌, length};
 ghost use Rattle.book.specs.Causes.{max_records, max_links};
 ghost use Rattle.book.specs.Book.{Book};
