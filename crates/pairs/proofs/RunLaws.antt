@@ -58,8 +58,8 @@ module _ (n : ℕ) (ws used c : List ℕ) where
     pub going_ready : {y : Item} → item_of (get_or c i 0) ≡ y → Ready y S.count × Placed (tree_unit n) S
     going_ready is = (subst (λ (z : Item). Ready z S.count) is (height_ready going_room.height), going_room.placed)
 
-    pub going_more : {y : Item} {work' : List ℕ} {S' : Stack} → item_of (get_or c i 0) ≡ y → Goes n ws used y work work' S S'
-        → Going n ws used c work' S' (i + 1)
+    pub going_more : {y : Item} {work' : List ℕ} {S' : Stack} → item_of (get_or c i 0) ≡ y
+        → Goes n ws used y work work' S S' → Going n ws used c work' S' (i + 1)
     going_more is g = rw add-one (record {
       room = g.room (get_or c i 0) (drop (suc i) c) is going_room;
       waits =

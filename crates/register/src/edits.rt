@@ -85,9 +85,9 @@ fn hold(counters: Counters, ring: &mut [u32], word: u32) -> Edited
 // The link of a word put in at its place, and its label's total with it.
 fn put_in(counters: Counters, links: &mut [u32], totals: &mut [u32], at: usize, x: u32) -> Counters
     requires { (counters.count < max_links) × (length links.old ≡ max_links) × (length totals.old ≡ labels) × Seam x links.old counters.count at }
-    ensures { (marks ring : List ℕ) → Changed (register_of counters links.entry.now marks ring totals.old)
-        (record { links = insert x (take counters.count links.entry.now); marks = marks })
-        (register_of result links.exit.now marks ring totals.new) }
+    ensures { (marks ring : List ℕ) → Changed (register_of counters links.old marks ring totals.old)
+        (record { links = insert x (take counters.count links.old); marks = marks })
+        (register_of result links.new marks ring totals.new) }
 {
     let mut changed = counters;
     put(links, changed.count, at, x);
@@ -100,9 +100,9 @@ fn put_in(counters: Counters, links: &mut [u32], totals: &mut [u32], at: usize, 
 fn cut_out(counters: Counters, links: &mut [u32], totals: &mut [u32], at: usize, x: u32) -> Counters
     requires { (counters.count ≤ max_links) × (length links.old ≡ max_links) × (length totals.old ≡ labels) × Seam x links.old counters.count at
         × (stands_at links.old counters.count at x ≡ true) }
-    ensures { (marks ring : List ℕ) → Changed (register_of counters links.entry.now marks ring totals.old)
-        (record { links = without eqb x (take counters.count links.entry.now); marks = marks })
-        (register_of result links.exit.now marks ring totals.new) }
+    ensures { (marks ring : List ℕ) → Changed (register_of counters links.old marks ring totals.old)
+        (record { links = without eqb x (take counters.count links.old); marks = marks })
+        (register_of result links.new marks ring totals.new) }
 {
     let mut changed = counters;
     cut(links, changed.count, at);

@@ -8,17 +8,25 @@ use register::Register;
 use std::io;
 use std::io::Stdout;
 
+fn print(stdout: Stdout, bytes: &[u8]) -> io::Result<()> {
+    stdout.write_all(bytes)
+}
+
+fn print_number(stdout: Stdout, x: u64) -> io::Result<()> {
+    stdout.print(x)
+}
+
 // A step: letter, + forward or - against, record reached.
 fn print_step(stdout: Stdout, word: u32) -> io::Result<()> {
     let letter = [(word / 2048 % 26) as u8 + b'a'];
-    stdout.write_all(&letter)?;
+    print(stdout, &letter)?;
     if word / 1024 % 2 == 0 {
-        stdout.write_all(b" + ")?;
+        print(stdout, b" + ")?;
     } else {
-        stdout.write_all(b" - ")?;
+        print(stdout, b" - ")?;
     }
-    stdout.print((word % 1024) as u64)?;
-    stdout.write_all(b"\n")
+    print_number(stdout, (word % 1024) as u64)?;
+    print(stdout, b"\n")
 }
 
 fn print_steps(stdout: Stdout, list: &[u32], count: usize) -> io::Result<()>
@@ -42,25 +50,25 @@ fn lent(
     work: &mut [u64],
     list: &mut [u32],
 ) -> io::Result<()> {
-    stdout.print(from as u64)?;
-    stdout.write_all(b" to ")?;
-    stdout.print(to as u64)?;
-    stdout.write_all(b" ")?;
-    stdout.write_all(text)?;
-    stdout.write_all(b"\n")?;
+    print_number(stdout, from as u64)?;
+    print(stdout, b" to ")?;
+    print_number(stdout, to as u64)?;
+    print(stdout, b" ")?;
+    print(stdout, text)?;
+    print(stdout, b"\n")?;
     let answer = chains::chain(register, from, to, text, work, list);
     match answer {
         ChainAnswer::Chain(steps) => {
-            stdout.write_all(b"chain ")?;
-            stdout.print(steps as u64)?;
-            stdout.write_all(b"\n")?;
+            print(stdout, b"chain ")?;
+            print_number(stdout, steps as u64)?;
+            print(stdout, b"\n")?;
             print_steps(stdout, list, steps)?;
         }
-        ChainAnswer::NoChain => stdout.write_all(b"none\n")?,
+        ChainAnswer::NoChain => print(stdout, b"none\n")?,
         ChainAnswer::Refused(number) => {
-            stdout.write_all(b"refused ")?;
-            stdout.print(number as u64)?;
-            stdout.write_all(b"\n")?;
+            print(stdout, b"refused ")?;
+            print_number(stdout, number as u64)?;
+            print(stdout, b"\n")?;
         }
     }
     Ok(())

@@ -6,36 +6,44 @@ use register::Register;
 use std::io;
 use std::io::Stdout;
 
+fn print(stdout: Stdout, bytes: &[u8]) -> io::Result<()> {
+    stdout.write_all(bytes)
+}
+
+fn print_number(stdout: Stdout, x: u64) -> io::Result<()> {
+    stdout.print(x)
+}
+
 // The whole list as it was lent, so that words past the ends are seen too.
 fn print_list(stdout: Stdout, list: &[u32]) -> io::Result<()> {
     let mut i = 0;
     while i < list.len() {
-        stdout.write_all(b" ")?;
-        stdout.print(list[i] as u64)?;
+        print(stdout, b" ")?;
+        print_number(stdout, list[i] as u64)?;
         i += 1;
     }
-    stdout.write_all(b"\n")
+    print(stdout, b"\n")
 }
 
 // What is asked: a record and an expression.
 fn print_question(stdout: Stdout, record: u16, text: &[u8]) -> io::Result<()> {
-    stdout.print(record as u64)?;
-    stdout.write_all(b" ")?;
-    stdout.write_all(text)?;
-    stdout.write_all(b"\n")
+    print_number(stdout, record as u64)?;
+    print(stdout, b" ")?;
+    print(stdout, text)?;
+    print(stdout, b"\n")
 }
 
 fn print_answer(stdout: Stdout, answer: Counted) -> io::Result<()> {
     match answer {
         Counted::Count(total) => {
-            stdout.write_all(b" ")?;
-            stdout.print(total as u64)?;
-            stdout.write_all(b":")?;
+            print(stdout, b" ")?;
+            print_number(stdout, total as u64)?;
+            print(stdout, b":")?;
         }
         Counted::Refused(number) => {
-            stdout.write_all(b" refused ")?;
-            stdout.print(number as u64)?;
-            stdout.write_all(b":")?;
+            print(stdout, b" refused ")?;
+            print_number(stdout, number as u64)?;
+            print(stdout, b":")?;
         }
     }
     Ok(())
@@ -50,7 +58,7 @@ fn lent(
     list: &mut [u32],
 ) -> io::Result<()> {
     print_question(stdout, from, text)?;
-    stdout.write_all(b"ends")?;
+    print(stdout, b"ends")?;
     print_answer(stdout, ends::ends(register, from, text, list))?;
     print_list(stdout, list)
 }
@@ -63,7 +71,7 @@ fn lent_starts(
     text: &[u8],
     list: &mut [u32],
 ) -> io::Result<()> {
-    stdout.write_all(b"starts")?;
+    print(stdout, b"starts")?;
     print_answer(stdout, ends::starts(register, to, text, list))?;
     print_list(stdout, list)
 }

@@ -16,6 +16,5 @@ loop-i-preserved c =
     record {
       inside = omega arith;
       as_long = s.auto.words ∙ l.invariant.as_long;
-      marked =
-          λ e. s.ensures ∙ ap (put l.i 1) (l.invariant.marked e) ∙ below_more l.i;
+      marked = λ e. s.ensures ∙ ap (put l.i 1) (l.invariant.marked e) ∙ below_more l.i;
     }
