@@ -131,7 +131,8 @@ visited_known {cs} {y} {r} {ds} e n b = record {
   leads = λ q p. (y, p y (sym e ∙ q));
 }
 
-module _ (cs ix : List ℕ) (I : Indexed (arc_to cs) (length cs) ix) (y : ℕ) (ds : List ℕ) (hy : y < 1024) (len : length ds ≡ 1024) (new : get_or ds y 0 ≡ 0) where
+module _ (cs ix : List ℕ) (I : Indexed (arc_to cs) (length cs) ix) (y : ℕ)
+    (ds : List ℕ) (hy : y < 1024) (len : length ds ≡ 1024) (new : get_or ds y 0 ≡ 0) where
   -- y is entered
   pub looking_begins : Bounded ds → Looking cs y ds (set ds y 1) 2 (first_arc ix y)
   looking_begins b = record {

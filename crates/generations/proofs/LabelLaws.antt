@@ -105,7 +105,8 @@ labelled_last m (v ∷ ws) w = go (eqb (digit m (v / 1048576)) 1) (labelled_last
     go false e = e
 
 module _ (m : ℕ) (ws : List ℕ) (i : ℕ) (h : i < length ws) where
-  next_kept : (t : Bool) → eqb (digit m (get_or ws i 0 / 1048576)) 1 ≡ t → labelled m (take (i + 1) ws) ≡ labelled m (take i ws) ++ pick t (get_or ws i 0 ∷ []) []
+  next_kept : (t : Bool) → eqb (digit m (get_or ws i 0 / 1048576)) 1 ≡ t
+      → labelled m (take (i + 1) ws) ≡ labelled m (take i ws) ++ pick t (get_or ws i 0 ∷ []) []
   next_kept t e =
       ap (λ (j : ℕ). labelled m (take j ws)) (add-one i) ∙ ap (labelled m) (take-suc ws i 0 h) ∙ labelled_last m (take i ws) (get_or ws i 0)
       ∙ ap (λ (b : Bool). labelled m (take i ws) ++ pick b (get_or ws i 0 ∷ []) []) e

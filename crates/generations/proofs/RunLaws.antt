@@ -55,6 +55,7 @@ labelled_in m (v ∷ ws) w i = go (eqb (digit m (v / 1048576)) 1) refl i (labell
 
 in_labelled : (m : ℕ) (ws : List ℕ) (w : ℕ) → In w ws → digit m (w / 1048576) ≡ 1 → In w (labelled m ws)
 unfolding labelled
+in_labelled m [] w x'' d = elim x'' [ ]
 in_labelled m (v ∷ ws) w here d = rw (eq-eqb (digit m (w / 1048576)) 1 d) here
 in_labelled m (v ∷ ws) w (there i) d = go (eqb (digit m (v / 1048576)) 1) (in_labelled m ws w i d)
   where

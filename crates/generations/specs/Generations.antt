@@ -77,4 +77,5 @@ pub data OutcomeIs (b : Book) (ls : List ℕ) (work room : ℕ) : Outcome → Ty
   not_asked : {k : ℕ} → first_number (argument_causes b ls work) ≡ suc k → OutcomeIs b ls work room (refused (suc k))
   short : {o : Outcome} → first_number (argument_causes b ls work) ≡ 0 → GenerationsAre (asked b) ls o → room < length (written o)
       → OutcomeIs b ls work room (refused (number short_list))
-  answered : {o : Outcome} → first_number (argument_causes b ls work) ≡ 0 → GenerationsAre (asked b) ls o → length (written o) ≤ room → OutcomeIs b ls work room o
+  answered : {o : Outcome} → first_number (argument_causes b ls work) ≡ 0
+      → GenerationsAre (asked b) ls o → length (written o) ≤ room → OutcomeIs b ls work room o

@@ -62,6 +62,7 @@ unfoldable pub forest : Book
 forest = record { n = 4; sheet = record { links = link 0 0 1 ∷ link 1 0 2 ∷ link 0 1 2 ∷ []; locks = []; withdrawn = 3 ∷ [] }; pile = [] }
 
 all_in : {A : Type 0} {P : A → Type 0} {x : A} {l : List A} → All P l → In x l → P x
+all_in {A = A} {P = P} all_none x4 = elim x4 [ ]
 all_in (all_more p a) here = p
 all_in (all_more p a) (there i) = all_in a i
 
@@ -118,7 +119,8 @@ not_0 = refl
 
 found : chain_to 2 round (loop_expr 0 []) 1 1 ≡ just (forward 0 2 ∷ forward 0 1 ∷ [])
 unfolding circle either stands_for after next turned edit_answer first_number number causes edited fresh has without asked most crossed_by union via closure
-    cells parted many accepts before reach steps_below before_each after_each walks walks_to end best first_to chain_to spell step_words
+    cells
+    parted many accepts before reach steps_below before_each after_each walks walks_to end best first_to chain_to spell step_words
 found = refl
 
 pub smallest_returns : GenerationsAre round (0 ∷ []) (loop (step_words (forward 0 2 ∷ forward 0 1 ∷ [])))

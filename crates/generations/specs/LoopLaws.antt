@@ -60,7 +60,8 @@ is_letters : (s : List ℕ) (e : Expr) (ls : List ℕ) → Is alternatives s e
 unfolding letters_after either
 is_letters s e [] d h = subst (λ (t : List ℕ). Is alternatives t e) (sym (append-nil s)) d
 is_letters s e (l ∷ ls) d h =
-    subst (λ (t : List ℕ). Is alternatives t (either (alternative e (symbol (letter l))) ls)) (append_assoc s (bar ∷ (letter_a + l) ∷ []) (letters_after bar ls))
+    subst (λ (t : List ℕ). Is alternatives t (either (alternative e (symbol (letter l))) ls))
+    (append_assoc s (bar ∷ (letter_a + l) ∷ []) (letters_after bar ls))
     (is_letters (s ++ (bar ∷ (letter_a + l) ∷ [])) (alternative e (symbol (letter l))) ls
     (more_alternatives d (one_part (plain (bare (is-letter (h l here)))))) (λ k i. h k (there i)))
 
@@ -162,6 +163,7 @@ letter_word a p = let e : stands_for (letter a.label) a ≡ true = rw (eq-eqb a.
 
 in_either_word : (e : Expr) (ls : List ℕ) (a : Letter) → a.inverted ≡ false → (k : ℕ) → k ≡ a.label → In k ls → Words (either e ls) (a ∷ [])
 unfolding either
+in_either_word e [] a p k q x3 = elim x3 [ ]
 in_either_word e (l ∷ ls) a p k q here =
     words_either (alternative e (symbol (letter l))) ls (right (subst (λ (i : ℕ). Words (symbol (letter i)) (a ∷ [])) (sym q) (letter_word a p)))
 in_either_word e (l ∷ ls) a p k q (there i) = in_either_word (alternative e (symbol (letter l))) ls a p k q i

@@ -1,6 +1,8 @@
 // Generations: the call gives the length of the longest run of links of some labels that ends at each record. If some record can return to itself over such
 // links, it gives the first loop of the smallest that can. What it promises is stated in specs/Generating.antt.
 // This file has what a caller sees. labels.rt has the labels and their links, depths.rt the depth of each record.
+#![tactic(auto)]
+
 mod depths;
 mod labels;
 
@@ -19,7 +21,7 @@ use labels::{TEXT_BYTES, any_above, keep, put_text, set_of};
 use register::{Register, WITHDRAWN_MARK};
 
 // How many numbers the list has; the steps of the loop that the list has; or the number of a cause.
-#[derive(Drop)]
+#[derive(Clone, Copy)]
 pub enum GenerationsAnswer {
     Numbers(usize),
     Loop(usize),

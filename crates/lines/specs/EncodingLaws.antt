@@ -184,7 +184,8 @@ sends_short : (t : Typed) (c : ℕ) (b : List ℕ) → Sends t → t ≡ framed 
 sends_short nothing c b none e = absurd (let z : ◌≡◌ {A = ℕ} 0 1 = cc in omega arith)
 sends_short (framed k s) c b (one h) e = let q : s ≡ b = cc in subst (λ (m : List ℕ). length m ≤ max_body) q h
 
-pub run_lines : {work : ℕ} {s s' : Session} {k k' : List ℕ} {ls : List (List ℕ)} {o : List ℕ} → TypedRun work s k ls o s' k' → Run work s k (sent_all ls) o s' k'
+pub run_lines : {work : ℕ} {s s' : Session} {k k' : List ℕ} {ls : List (List ℕ)} {o : List ℕ} → TypedRun work s k ls o s' k'
+    → Run work s k (sent_all ls) o s' k'
 unfolding sent_all sent
 run_lines no_lines = ended
 run_lines (silent_line l e run) = rw e (run_lines run)

@@ -17,7 +17,8 @@
 --   decimal_typed  a number as the program prints it is that number when it is typed
 -- Assumes nothing.
 use Rattle.std.specs.Prelude.{◌≡◌, refl, Bool, true, false, ◌&&◌, ℕ, zero, suc, ◌+◌, ◌-◌, ◌*◌, ◌/◌, ◌%◌, ◌≤◌, ◌<◌, length, take, drop, get_or, eqb, ltb}
-use Rattle.std.proofs.Common.{sym, ap, subst, ◌∙◌, add-one, arith, length-append, length-take, drop_of_length-le, drop-cons, take-suc, eq-eqb, ne_eqb, eqb-true, le-leb, lt-ltb, ltb-true, ltb-false}
+use Rattle.std.proofs.Common.{sym, ap, subst, ◌∙◌, add-one, arith, length-append, length-take, drop_of_length-le, drop-cons, take-suc, eq-eqb, ne_eqb, eqb-true}
+use Rattle.std.proofs.Common.{le-leb, lt-ltb, ltb-true, ltb-false}
 use mathlib.Core.List.{List, [], ◌∷◌, ◌++◌, reverse, reverse-cons, reverse-append, reverse-reverse}
 use Rattle.report.specs.Report.{figures, decimal, figure_0}
 use Rattle.session.specs.Program.{shape_of}
