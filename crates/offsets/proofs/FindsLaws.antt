@@ -1,4 +1,12 @@
--- Laws about the definitions of Finds.
+-- The answer that passes find is the answer of `Offsets`.
+--   cannot_exactly        "cannot all hold" comes exactly if there is no placing
+--   limits_hold, limits_attained
+--                         no placing goes beyond the limits, and each is attained
+--   limit_at              so each record below n has its two words
+--   free_exactly          1 and 0 come exactly for a record that ties do not join to the base
+--   offsets_are           the answer is the one that is asked for
+--   cannot_are, told_are  the same as the code has it: by the flag, and a list that has the words
+-- Assumes nothing.
 use Rattle.std.specs.Prelude.{◌≡◌, List, Bool, ℕ, zero, suc, ◌+◌, ◌*◌, ◌<◌, ◌≤◌, ℤ, pos, neg_ℤ, ◌-ℤ◌, length, get_or, take, ◌≤ℤ◌}
 use Rattle.std.proofs.Math.Path.{refl, ap, subst}
 use Rattle.std.proofs.Common.{sym, ◌∙◌, inl, inr, not-suc-le-zero, get_or-take, length-take-le}

@@ -1,5 +1,6 @@
--- The two words of a record, on each way through the code. A value that the code reads from its bits is `to_z w64 (of_z w64 z)`: each
--- law takes the facts as the code's tests leave them.
+-- The two words of a record, on each way through the code. A value that the code reads from its bits is `to_z w64 (of_z w64 z)`: each law takes the facts as
+-- the
+-- code's tests leave them.
 --   least_low, least_high, most_low, most_high
 --                         a distance out of range is of a free record: its words are 1 and 0
 --   most_narrowed         the most, from a distance in range

@@ -1,4 +1,18 @@
--- Laws about the definitions of Thirds.
+-- The three thirds of `Thirds` settle together: no arc joins two of them, so each settles as if alone, in the same n + 1 passes.
+--   firstly_ind, firstly_base
+--                    which number stands in the list at first; 0 or less at the base
+--   three n f p q    a placing of each third, as one of all
+--   Part             the three thirds
+--   thirds_settle    if there is a placing, n + 1 passes end with one that changes nothing
+--   length_passed, near_at, base_at
+--                    of the list after n + 1 passes: its length, how large its numbers are, 0 or less at the base
+--   known_joined     what is known in the second third is joined to the base
+--   second_holds, third_holds
+--                    after a pass that changed nothing the arcs of the second and the third hold
+--   first_places     if it did, the first third is a placing
+--   under_second, under_third
+--                    no placing goes beyond the second and the third
+-- Assumes nothing.
 use Rattle.std.specs.Prelude.{◌≡◌, refl, ◌⊎◌, List, Bool, true, false, ℕ, suc, ◌+◌, ◌-◌, ◌*◌, ◌<◌, ◌≤◌, ltb, eqb, ℤ, pos, ◌+ℤ◌, ◌-ℤ◌, length, ◌≤ℤ◌}
 use Rattle.std.proofs.Common.{sym, ◌∙◌, inl, inr, mul-le-mul, not-suc-le-zero, ltb-true, ltb-false, lt-ltb, le-ltb, eqb-true}
 use Rattle.std.proofs.Math.Path.{ap, subst}

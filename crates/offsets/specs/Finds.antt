@@ -1,18 +1,10 @@
--- The answer as passes find it, and that it is the answer of `Offsets`.
+-- The answer as passes find it; that it is the answer of `Offsets` is shown in proofs/FindsLaws.
 --   ran n ts l            n + 1 passes over the ties, from a list l that `Starts n base`
 --   least-word, most-word
 --                         the two words of a record, of the list that was made
 --   Told, Fits            a list that has the words of the first k records; that all words fit 32 bits
 --   words, answer         two words to a record, k records from x on; the answer, by the flag and the list
 --   offsets n ts l        what a program makes of it
---   cannot_exactly        "cannot all hold" comes exactly if there is no placing
---   limits_hold, limits_attained
---                         no placing goes beyond the limits, and each is attained
---   limit_at              so each record below n has its two words
---   free_exactly          1 and 0 come exactly for a record that ties do not join to the base
---   offsets_are           the answer is the one that is asked for
---   cannot_are, told_are  the same as the code has it: by the flag, and a list that has the words
--- Assumes nothing.
 use Rattle.std.specs.Prelude.{◌≡◌, List, [], ◌∷◌, Bool, ℕ, zero, suc, ◌+◌, ◌*◌, ◌^◌, ◌<◌, ℤ, pos, neg_ℤ, get_or}
 use Rattle.std.proofs.Math.Bool.{true, false}
 use Rattle.std.specs.Int.Signed.{mag}

@@ -122,16 +122,16 @@ module _ (b : Book) (n : ℕ) (links : List ℕ) (used : ℕ → ℕ) (L : Lette
       go true = ap (λ (ws : List ℕ). set_of (map link_pair ws) x y) (every_labelled part labels_few) ∙ part_set x y
       go false = ap (λ (ws : List ℕ). set_of (map link_pair ws) x y) (labelled_none part) ∙ ap (λ (a : Cells). a x y) set_none
 
-  pub part_stepped : (forward against : ℕ) → within n (crossed_words part (every_if forward l) (every_if against l))
-      ≡ stepped_by g (letters_in forward against) l
+  pub part_stepped : (forward against : ℕ)
+      → within n (crossed_words part (every_if forward l) (every_if against l)) ≡ stepped_by g (letters_in forward against) l
   unfolding crossed_words stepped_by letters_in asked union transpose
   part_stepped forward against =
       within_set n _ (crossed_set n part (every_if forward l) (every_if against l) (omega (arith, L.size, L.small)) below)
       ∙ fun_ext (λ x. fun_ext (λ y. ap₂ max (side forward x y) (side against y x)))
 
 -- a label that neither set has
-pub none_stepped : (g : Graph) (forward against l : ℕ) → every_if forward l ≡ 0
-    → every_if against l ≡ 0 → stepped_by g (letters_in forward against) l ≡ no_pairs
+pub none_stepped : (g : Graph) (forward against l : ℕ) → every_if forward l ≡ 0 → every_if against l ≡ 0
+    → stepped_by g (letters_in forward against) l ≡ no_pairs
 unfolding stepped_by letters_in every_if no_pairs
 none_stepped g forward against l e f = fun_ext (λ x. fun_ext (λ y. go (eqb (digit forward l) 1) (eqb (digit against l) 1) e f _ _))
   where

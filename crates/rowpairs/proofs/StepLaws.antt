@@ -75,8 +75,8 @@ module _ (xs part : List ℕ) (start : ℕ) (h : start ≤ length xs) where
   changed = put_mid start (length xs - start) xs part
 
   front : (i : ℕ) → i < start → get_or changed i 0 ≡ get_or xs i 0
-  front i l =
-      sym (get_or-take start changed i 0 l) ∙ ap (λ (l : List ℕ). get_or l i 0) (take_put start (length xs - start) xs part h) ∙ get_or-take start xs i 0 l
+  front i l = sym (get_or-take start changed i 0 l) ∙ ap (λ (l : List ℕ). get_or l i 0) (take_put start (length xs - start) xs part h) ∙
+      get_or-take start xs i 0 l
 
   back : drop start changed ≡ part
   back =

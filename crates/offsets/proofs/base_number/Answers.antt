@@ -16,6 +16,5 @@ returns-then-count-gt-MAX_TIES c =
     (sym c.is_withdrawn.ensures ∙ c.if-is_withdrawn.false) c.if-count-gt-MAX_TIES.true
 
 pub returns : goal.returns
-returns c =
-    base_none c.args.n c.args.state.now c.args.base c.args.count c.if-n-base.false
+returns c = base_none c.args.n c.args.state.now c.args.base c.args.count c.if-n-base.false
     (sym c.is_withdrawn.ensures ∙ c.if-is_withdrawn.false) c.if-count-gt-MAX_TIES.false

@@ -24,8 +24,12 @@ fill-requires c =
       length-take-le (c.args.n * 3) c.args.work.now h,
       (
         omega arith,
-        base_in (record { refused = c.open_number-refused.result; n = c.args.n; marks = c.args.state.now })
-            c.args.base c.args.found c.args.count c.args.work.now
+        base_in (record {
+          refused = c.open_number-refused.result;
+          n = c.args.n;
+          marks =
+              c.args.state.now;
+        }) c.args.base c.args.found c.args.count c.args.work.now
             c.if-refused-ne0.false _ (first-is c.args.found c.base_number-own.ensures c.sooner-first.ensures) c.if-first-ne0.false,
       ),
     )

@@ -16,6 +16,5 @@ pub returns-then-b-ge-FAR : goal.returns-then-b-ge-FAR
 returns-then-b-ge-FAR c = least_above c.args.n c.args.x c.args.d.now (omega arith) c.if-a-lt-LOW.false c.if-a-ge-FAR.false (omega arith) c.if-b-ge-FAR.true
 
 pub returns : goal.returns
-returns c =
-    least_narrowed c.args.n c.args.x c.args.d.now (omega arith) c.if-a-lt-LOW.false c.if-a-ge-FAR.false
+returns c = least_narrowed c.args.n c.args.x c.args.d.now (omega arith) c.if-a-lt-LOW.false c.if-a-ge-FAR.false
     (omega arith) c.if-b-lt-LOW.false c.if-b-ge-FAR.false c.narrow.result c.narrow.ensures

@@ -21,6 +21,5 @@ returns-then-v-b c =
     (omega arith) c.if-a-lt-LOW.false c.if-a-ge-FAR.false c.requires (omega arith) c.if-v-b.true
 
 pub returns : goal.returns
-returns c =
-    stayed c.args.from c.args.to c.args.w c.args.d.now c.args.was c.if-from-d.false c.if-to-d.false
+returns c = stayed c.args.from c.args.to c.args.w c.args.d.now c.args.was c.if-from-d.false c.if-to-d.false
     (omega arith) c.if-a-lt-LOW.false c.if-a-ge-FAR.false c.requires (omega arith) c.if-v-b.false

@@ -16,8 +16,8 @@ loop-i-preserved c =
       | then-marks-i-ne-WITHDRAWN_MARK w ↦ (
         omega arith,
         omega (arith, ap length w.records-is, w.set_bit.auto.words),
-        ap bit_at w.records-is ∙ w.set_bit.ensures ∙ ap (put c.loop-i.i 1) c.loop-i.invariant.2
-            ∙ used_more c.args.marks.now c.loop-i.i (ne_eqb _ _ w.if-marks-i-ne-WITHDRAWN_MARK.true),
+        ap bit_at w.records-is ∙ w.set_bit.ensures ∙ ap (put c.loop-i.i 1) c.loop-i.invariant.2 ∙
+            used_more c.args.marks.now c.loop-i.i (ne_eqb _ _ w.if-marks-i-ne-WITHDRAWN_MARK.true),
       )
       | else-marks-i-ne-WITHDRAWN_MARK w ↦ (
         omega arith,

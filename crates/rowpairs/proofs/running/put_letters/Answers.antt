@@ -30,11 +30,13 @@ loop-label-preserved c =
         cells_as_long = omega (arith, c.if-plain-inverted-ne0.auto.cells, l.invariant.cells_as_long);
         masks_as_long = omega (arith, c.if-plain-inverted-ne0.auto.masks, l.invariant.masks_as_long);
         put_below =
-            subst (λ (x : List ℕ). PutBelow c.args.n c.args.w c.args.links.now c.args.forward
-            c.args.against c.args.cells.now c.args.masks.now x c.if-plain-inverted-ne0.masks (l.label + 1))
+            subst (λ (x : List ℕ).
+            PutBelow c.args.n c.args.w c.args.links.now c.args.forward c.args.against c.args.cells.now c.args.masks.now x c.if-plain-inverted-ne0.masks
+            (l.label + 1))
             (sym v.cells-is)
-            (subst (λ (x : List ℕ). PutBelow c.args.n c.args.w c.args.links.now c.args.forward c.args.against
-            c.args.cells.now c.args.masks.now v.put_letters.new.cells x (l.label + 1)) (sym v.masks-is)
+            (subst (λ (x : List ℕ).
+            PutBelow c.args.n c.args.w c.args.links.now c.args.forward c.args.against c.args.cells.now c.args.masks.now v.put_letters.new.cells x
+            (l.label + 1)) (sym v.masks-is)
             (put_more c.args.n c.args.w c.args.links.now c.args.forward c.args.against c.args.cells.now c.args.masks.now l.label
             _ _ l.cells l.masks p.ensures t.ensures l.invariant.put_below _ _ _ v.label_part-part.ensures v.put_letters.ensures));
       }
@@ -43,11 +45,12 @@ loop-label-preserved c =
         cells_as_long = omega (arith, c.if-plain-inverted-ne0.auto.cells, l.invariant.cells_as_long);
         masks_as_long = omega (arith, c.if-plain-inverted-ne0.auto.masks, l.invariant.masks_as_long);
         put_below =
-            subst (λ (x : List ℕ). PutBelow c.args.n c.args.w c.args.links.now c.args.forward
-            c.args.against c.args.cells.now c.args.masks.now x c.if-plain-inverted-ne0.masks (l.label + 1))
+            subst (λ (x : List ℕ).
+            PutBelow c.args.n c.args.w c.args.links.now c.args.forward c.args.against c.args.cells.now c.args.masks.now x c.if-plain-inverted-ne0.masks
+            (l.label + 1))
             (sym v.cells-is)
-            (subst (λ (x : List ℕ). PutBelow c.args.n c.args.w c.args.links.now c.args.forward
-            c.args.against c.args.cells.now c.args.masks.now l.cells x (l.label + 1))
+            (subst (λ (x : List ℕ).
+            PutBelow c.args.n c.args.w c.args.links.now c.args.forward c.args.against c.args.cells.now c.args.masks.now l.cells x (l.label + 1))
             (sym v.masks-is)
             (put_same c.args.n c.args.w c.args.links.now c.args.forward c.args.against c.args.cells.now c.args.masks.now l.label
             _ _ l.cells l.masks p.ensures t.ensures l.invariant.put_below (let h = v.if-plain-inverted-ne0.false in omega arith)));
@@ -55,6 +58,5 @@ loop-label-preserved c =
     ]
 
 pub returns : goal.returns
-returns c =
-    put_ends c.args.n c.args.w c.args.links.now c.args.forward c.args.against c.args.cells.now c.args.masks.now
-    c.loop-label.label c.loop-label.cells c.loop-label.masks (omega arith) c.loop-label.invariant.put_below
+returns c = put_ends c.args.n c.args.w c.args.links.now c.args.forward c.args.against c.args.cells.now c.args.masks.now c.loop-label.label
+    c.loop-label.cells c.loop-label.masks (omega arith) c.loop-label.invariant.put_below
