@@ -7,4 +7,3 @@ pub mod BookLaws
 pub mod GivenLaws
 pub mod BookCases
 pub mod OrderLaws
-pub mod SameOrderLaws

@@ -1,6 +1,7 @@
 -- Two adds or removes of different links change places: on a book that is not full, both are accepted in the one order if they are in the other, and the books
 -- after them are alike.
 --   exchange_free   accepted in one order, accepted in the other
+--   exchange_same   the books after both orders are alike
 --   full_order      not so on a full book: a link that is added there after another was removed is refused before it
 -- Assumes nothing.
 use Rattle.std.specs.Prelude.{◌≡◌, Bool, ◌||◌, leb, eqb}
@@ -14,11 +15,11 @@ use Rattle.std.proofs.Math.ListN.{length}
 use borrow.Author.Tests.{leb-false, lt-leb, le-leb, not-false}
 use Rattle.book.specs.Basics.{pick, has, without, tally}
 use Rattle.book.specs.Causes.{no_record, bad_label, locked_end, already, missing, full, withdrawn_record, number, first_number, labels, max_links}
-use Rattle.book.specs.Book.{Link, same_link, Sheet, Book, Edit, add, remove, edit, present, total, causes, edit_answer, edited}
+use Rattle.book.specs.Book.{Link, same_link, Sheet, Book, Edit, add, remove, edit, present, is_locked, is_withdrawn, total, causes, edit_answer, edited}
 use Rattle.book.specs.Book.{turned, answer, next}
 use Rattle.book.proofs.SetLaws.{same_link_test, without_other}
 use Rattle.book.proofs.BookLaws.{first-none}
-use Rattle.book.specs.Orders.{Single, adds, removes, link_in}
+use Rattle.book.specs.Orders.{Single, adds, removes, link_in, Alike}
 
 -- ---- an add or a remove is accepted
 abbrev removing : {e : Edit} → Single e → Bool
@@ -104,7 +105,7 @@ unlike j k h = go (same_link j k) refl
     go false e = refl
 
 module _ (s : Sheet) where
-  pub marks_kept : {e : Edit} → Single e → ((edited e s).locks ≡ s.locks) × ((edited e s).withdrawn ≡ s.withdrawn)
+  marks_kept : {e : Edit} → Single e → ((edited e s).locks ≡ s.locks) × ((edited e s).withdrawn ≡ s.withdrawn)
   unfolding edited
   marks_kept adds = (refl, refl)
   marks_kept removes = (refl, refl)
@@ -162,8 +163,7 @@ links_equal : (s t : Sheet) → s.links ≡ t.links → LinksAlike s t
 unfolding total
 links_equal s t p = (λ k. ap (has same_link k) p, λ l. ap (tally (λ j. eqb j.label l)) p)
 
-pub links_alike : (s : Sheet) {d e : Edit} (x : Single d) (y : Single e) → (link_in x ≡ link_in y → ⊥)
-    → LinksAlike (edited e (edited d s)) (edited d (edited e s))
+links_alike : (s : Sheet) {d e : Edit} (x : Single d) (y : Single e) → (link_in x ≡ link_in y → ⊥) → LinksAlike (edited e (edited d s)) (edited d (edited e s))
 unfolding link_in edited has without total tally
 links_alike s (adds {k = j}) (adds {k}) h = (λ m. or_swap (same_link k m) (same_link j m) (present s m), λ l. omega arith)
 links_alike s (adds {k = j}) (removes {k}) h = links_equal (edited (remove k) (edited (add j) s)) (edited (add j) (edited (remove k) s)) (rw (unlike j k h))
@@ -174,7 +174,7 @@ links_alike s (removes {k = j}) (removes {k}) h =
 
 -- ---- on books
 -- an accepted edit puts the edited sheet in the place of the sheet
-pub taken : (b : Book) (e : Edit) → answer b (edit e) ≡ 0 → ((next b (edit e)).n ≡ b.n) × ((next b (edit e)).sheet ≡ edited e b.sheet)
+taken : (b : Book) (e : Edit) → answer b (edit e) ≡ 0 → ((next b (edit e)).n ≡ b.n) × ((next b (edit e)).sheet ≡ edited e b.sheet)
 unfolding answer next turned
 taken b e h = (ap (λ (k : ℕ). (turned k b (edited e b.sheet)).n) h, ap (λ (k : ℕ). (turned k b (edited e b.sheet)).sheet) h)
 
@@ -187,6 +187,38 @@ module _ (b : Book) (room : length b.sheet.links < max_links) {d e : Edit} (x : 
       let f = sheet_free b.n b.sheet room x y apart p (sym (ap₂ (λ (n : ℕ) (s : Sheet). edit_answer n s e) t.0 t.1) ∙ q) in
       let u = taken b e f.0 in
       (f.0, ap₂ (λ (n : ℕ) (s : Sheet). edit_answer n s d) u.0 u.1 ∙ f.1)
+
+  sheet_after : (c : Edit) → answer b (edit c) ≡ 0 → (f : Edit) → answer (next b (edit c)) (edit f) ≡ 0
+      → ((next (next b (edit c)) (edit f)).n ≡ b.n) × ((next (next b (edit c)) (edit f)).sheet ≡ edited f (edited c b.sheet))
+  sheet_after c h f g =
+      let t = taken b c h in
+      let u = taken (next b (edit c)) f g in
+      (u.0 ∙ t.0, u.1 ∙ ap (edited f) t.1)
+
+  pub exchange_same : Alike (next (next b (edit d)) (edit e)) (next (next b (edit e)) (edit d))
+  unfolding answer
+  exchange_same =
+      let v = taken b d p in
+      let g = sheet_free b.n b.sheet room x y apart p (sym (ap₂ (λ (n : ℕ) (s : Sheet). edit_answer n s e) v.0 v.1) ∙ q) in
+      let w = taken b e g.0 in
+      let f : (answer b (edit e) ≡ 0) × (answer (next b (edit e)) (edit d) ≡ 0) =
+      (g.0, ap₂ (λ (n : ℕ) (s : Sheet). edit_answer n s d) w.0 w.1 ∙ g.1) in
+      let s = sheet_after d p e q in
+      let t = sheet_after e f.0 d f.1 in
+      let l = links_alike b.sheet x y apart in
+      let k = marks_kept b.sheet x in
+      let m = marks_kept b.sheet y in
+      let k' = marks_kept (edited e b.sheet) x in
+      let m' = marks_kept (edited d b.sheet) y in
+      let locks : (edited e (edited d b.sheet)).locks ≡ (edited d (edited e b.sheet)).locks = m'.0 ∙ k.0 ∙ sym m.0 ∙ sym k'.0 in
+      let gone : (edited e (edited d b.sheet)).withdrawn ≡ (edited d (edited e b.sheet)).withdrawn = m'.1 ∙ k.1 ∙ sym m.1 ∙ sym k'.1 in
+      record {
+        size = s.0 ∙ sym t.0;
+        links = λ j. ap (λ (u : Sheet). present u j) s.1 ∙ l.0 j ∙ ap (λ (u : Sheet). present u j) (sym t.1);
+        locks = λ r. ap (λ (u : Sheet). is_locked u r) s.1 ∙ ap (has eqb r) locks ∙ ap (λ (u : Sheet). is_locked u r) (sym t.1);
+        withdrawn = λ r. ap (λ (u : Sheet). is_withdrawn u r) s.1 ∙ ap (has eqb r) gone ∙ ap (λ (u : Sheet). is_withdrawn u r) (sym t.1);
+        totals = λ j. ap (λ (u : Sheet). total u j) s.1 ∙ l.1 j ∙ ap (λ (u : Sheet). total u j) (sym t.1);
+      }
 
 pub full_order : (b : Book) → max_links ≤ length b.sheet.links → (j k : Link) → (j ≡ k → ⊥) → answer b (edit (remove j)) ≡ 0
     → answer (next b (edit (remove j))) (edit (add k)) ≡ 0 → answer b (edit (add k)) ≡ number full

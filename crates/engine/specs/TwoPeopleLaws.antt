@@ -10,8 +10,7 @@ use Rattle.book.specs.Causes.{labels, max_links}
 use Rattle.book.specs.Book.{Link, Sheet, Book, Edit, Call, edit, present, total, total_number, answer, next, fresh, after}
 use Rattle.book.proofs.ListLaws.{rises_same}
 use Rattle.book.specs.Orders.{Single, link_in, Alike}
-use Rattle.book.proofs.OrderLaws.{exchange_free}
-use Rattle.book.proofs.SameOrderLaws.{exchange_same}
+use Rattle.book.proofs.OrderLaws.{exchange_free, exchange_same}
 use Rattle.answers.specs.Answers.{counted, answered}
 use Rattle.paths.specs.Verdicts.{verdict}
 use Rattle.paths.specs.Chains.{Graph, asked, chain}
