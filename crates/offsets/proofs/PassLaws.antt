@@ -6,7 +6,7 @@
 --   Near c z            -c ≤ z ≤ c
 --   near_add, mag_parts, near_known
 --                       sums of near numbers; a number that is near is known
---   far, known_not_far  the number of a record that is not reached, which is not known
+--   known_not_far  the number of a record that is not reached, which is not known
 --   Ranged              a distance is `far`, or near
 --   Small cs            every arc rises by at most 20,000
 --   passes_ranged       how large distances grow, pass by pass
@@ -18,6 +18,7 @@ use Rattle.std.specs.Prelude.{◌≡◌, refl, ◌⊎◌, List, [], ◌∷◌, B
 use Rattle.std.proofs.Common.{sym, ap, ◌∙◌, subst, inl, inr, true≢false, suc-mul, arith, length-set, lt-ltb}
 use Rattle.std.specs.Int.Signed.{mag, ≤ℤ_refl}
 use Rattle.book.specs.Basics.{In, here, there}
+use Rattle.offsets.specs.Thirds.{far}
 use Rattle.offsets.specs.declared.Tie.{Tie}
 use Rattle.offsets.proofs.LinearLaws.{up, down, of_add, ≤ℤ-trans}
 use Rattle.offsets.specs.Relax.{State, pick, known, dist, settled}
@@ -79,10 +80,6 @@ mag_parts (negsuc n) = omega arith
 
 pub near_known : (c : ℕ) (z : ℤ) → c < 2 ^ 61 → Near c z → known z ≡ true
 near_known c z h k = let m = mag_parts z in lt-ltb (mag z) (2 ^ 62) (omega (arith, m, h, k.0, k.1))
-
--- the number of a record that is not reached
-abbrev pub far : ℤ
-far = pos (2 ^ 62)
 
 pub known_not_far : (z : ℤ) → known z ≡ true → z ≡ far → ⊥
 known_not_far z h e = let q : known far ≡ true = subst (λ (y : ℤ). known y ≡ true) e h in true≢false (sym q)

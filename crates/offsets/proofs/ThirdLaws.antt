@@ -12,12 +12,13 @@ use Rattle.std.specs.Prelude.{◌≡◌, refl, ◌⊎◌, List, Bool, true, fals
 use Rattle.std.proofs.Common.{sym, ◌∙◌, subst, inl, inr, true≢false, not-suc-le-zero, arith}
 use Rattle.std.proofs.Math.Path.{ap}
 use Rattle.book.specs.Basics.{In}
+use Rattle.offsets.specs.Thirds.{far}
 use Rattle.offsets.specs.declared.Tie.{Tie}
 use Rattle.offsets.proofs.LinearLaws.{up, down, of_le, to_le, to_eq, of_sub, of_pos, of_neg_up, of_neg_down, ≤ℤ-trans, ≤ℤ-antisym}
 use Rattle.offsets.specs.Relax.{known}
 use Rattle.offsets.specs.Offsets.{Placing, Meets, Places, Joined, self, onward}
 use Rattle.offsets.proofs.ArcLaws.{Arc, up_arc, down_arc, arcs, of_ties, in_up, in_down, sums_meet}
-use Rattle.offsets.proofs.PassLaws.{Near, near_add, near_known, far, known_not_far, Small}
+use Rattle.offsets.proofs.PassLaws.{Near, near_add, near_known, known_not_far, Small}
 
 pub record Allowed (n : ℕ) (t : Tie) : Type 0 where
   pub first_in : t.first < n

@@ -29,11 +29,11 @@ use Rattle.offsets.proofs.ArcLaws.{Arc, up_arc, down_arc, arcs, arcs3, at, turne
 use Rattle.offsets.proofs.ArcLaws.{in_up}
 use Rattle.offsets.proofs.ArcLaws.{in_down, Keeps, keeps_places, sums_meet}
 use Rattle.offsets.proofs.SettleLaws.{passes, passes_settle, span, span_length, span_in, span_all}
-use Rattle.offsets.proofs.PassLaws.{passes_keep, passes_length, passes_hold, passes_down, Near, near_known, far, known_not_far, Small, passes_ranged}
+use Rattle.offsets.proofs.PassLaws.{passes_keep, passes_length, passes_hold, passes_down, Near, near_known, known_not_far, Small, passes_ranged}
 use Rattle.offsets.proofs.PassLaws.{passes_reached}
 use Rattle.offsets.proofs.ThirdLaws.{Ready, far_over, ready_small, ready_inside, joined_arc}
 use Rattle.offsets.proofs.TurnedTieLaws.{neg, turned_places, places_turned, turned_ready}
-use Rattle.offsets.specs.Thirds.{choose, firstly, Starts}
+use Rattle.offsets.specs.Thirds.{far, choose, firstly, Starts}
 
 choose_ind : (b : Bool) (y z : ℤ) (Q : ℤ → Type 0) → (b ≡ true → Q y) → (b ≡ false → Q z) → Q (choose b y z)
 choose_ind true y z Q f g = f refl
