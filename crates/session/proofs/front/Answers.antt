@@ -1,23 +1,16 @@
 -- no frame, one that is cut, or a whole one, by the law for each. Assumes nothing.
 use mathlib.Core.Path.{ap, ◌∙◌}
-use Prim.Native.Nat.{ℕ, ◌+◌, ◌≤◌}
+use Prim.Native.Nat.{ℕ, ◌+◌}
 use native.Mathlib.Omega.{arith}
-use Rattle.session.specs.Program.{max_frame}
 use Rattle.session.specs.StepLaws.{following_most, whole_unframed, whole_cut, whole_is}
-use mathlib.Core.Path.{◌≡◌}
-use Prim.Native.Nat.{ℕ, ◌≤◌}
-use mathlib.Core.List.{List}
-use Rattle.session.specs.Program.{following}
+use Prim.Native.Nat.{ℕ}
 use Rattle.session.proofs.front.Goals as goal
 
 pub returns-then-n-eq0 : goal.returns-then-n-eq0
 returns-then-n-eq0 c = whole_unframed c.args.input.now (omega (arith, c.following-n.ensures))
 
-small : (s : List ℕ) {n : ℕ} → n ≡ following s → n ≤ max_frame
-small s e = omega (arith, e, following_most s)
-
 pub overflow_add-n : goal.overflow_add-n
-overflow_add-n c = omega (arith, small c.args.input.now c.following-n.ensures)
+overflow_add-n c = omega (arith, c.following-n.ensures, following_most c.args.input.now)
 
 pub returns-then-input-n : goal.returns-then-input-n
 returns-then-input-n c =
