@@ -1,3 +1,5 @@
+-- `answers::copy_u32` meets its contract. The loop's invariant: the first i bytes of the from are written. The measure is what is left of the from.
+-- A turn's store is one byte more, by `wrote_byte` and `Wrote-then`. Assumes nothing.
 use Rattle.std.proofs.Common.{add-zero, arith}
 use Rattle.std.proofs.lemmas.List.{take_all}
 use Rattle.answers.specs.WrittenLaws.{wrote_none, wrote_as, wrote_more}

@@ -1,3 +1,5 @@
+-- `links::lookups::label_part` meets its contract: the words of a label stand between the place of its first word and that of
+-- the next label's. Assumes nothing.
 use Rattle.book.proofs.ListLaws.{rest_whole}
 use Rattle.links.proofs.LookupLaws.{label-part}
 use Rattle.links.proofs.lookups.label_part.Goals as goal

@@ -1,3 +1,5 @@
+-- `links::lookups::next_side` meets its contract. The loop's invariant: the next place from i on is the next place from where it began.
+-- The measure is what is left of the words. Assumes nothing.
 use Rattle.std.proofs.Common.{sym, ◌∙◌}
 use borrow.Author.Tests.{eq-eqb, ne_eqb}
 use Rattle.links.specs.Lookups.{has_at}

@@ -1,3 +1,4 @@
+-- `links::lookups::touched` meets its contract: the record is looked for at one side, then at the other. Assumes nothing.
 use Rattle.std.proofs.Common.{sym, take}
 use Rattle.links.proofs.LookupLaws.{touched_from, touched_second}
 use Rattle.links.proofs.lookups.touched.Goals as goal

@@ -1,3 +1,5 @@
+-- `links::sorted::cut` meets its contract. The loop's invariant: the words so far without the one at j are the first words without the one at its place.
+-- The measure is what is left of count. Assumes nothing.
 use Rattle.std.proofs.Common.{◌∙◌, arith}
 use Rattle.links.proofs.ShiftLaws.{cut_turn, cut_last}
 use Rattle.links.proofs.sorted.cut.Goals as goal

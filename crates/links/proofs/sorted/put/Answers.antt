@@ -1,3 +1,5 @@
+-- `links::sorted::put` meets its contract. The loop's invariant: the words so far, with the carried one put at j, are the first words with x put at its
+-- place. The measure is what is left of count. Assumes nothing.
 use Rattle.std.proofs.Common.{◌≡◌, ◌∙◌, arith}
 use Rattle.links.proofs.ShiftLaws.{put_turn, put_last}
 use Rattle.links.proofs.sorted.put.Goals as goal

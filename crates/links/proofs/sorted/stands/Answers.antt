@@ -1,3 +1,4 @@
+-- `links::sorted::stands` meets its contract, by its test. Assumes nothing.
 use borrow.Author.Tests.{le-ltb, lt-ltb}
 use Rattle.links.specs.Ascending.{stands_at}
 use Rattle.links.proofs.sorted.stands.Goals as goal

@@ -9,9 +9,6 @@ use Rattle.rows.specs.Rows.{flat}
 use Rattle.packing.specs.Reading.{squares_to, ReadAll}
 use Rattle.packing.proofs.loading.+descend.Given as goal
 
--- ?? abbrev μ_descend : Measures 4 descend-kinds.ps ℕ
--- μ_descend κs a = a.1.1.0
-
 abbrev pub invariant-loop-i : goal.invariant-loop-i
 invariant-loop-i l = (l.i ≤ l.m) × (length l.rows ≡ length l.initial.rows)
     × ((a t : Cells) → bit_at l.initial.rows ≡ flat a → ReadAll l.sense l.tree (l.h - 1) l.next 0 l.m t
