@@ -3,7 +3,7 @@
 --   Arc, up_arc, down_arc
 --                     an arc; the two of a tie
 --   arcs ts           the arcs of ties, two for each
---   turn, turned, at  a tie turned round; ties so; an arc between records that stand from place o on
+--   at o a            an arc between records that stand from place o on
 --   arcs3 n ts        the arcs of ties in a list of three thirds of n each
 --   Keeps p cs        a placing keeps all arcs of a list
 --   arc, run cs s     what an arc does to distances; a pass over arcs
@@ -32,6 +32,7 @@ use Rattle.offsets.specs.declared.Tie.{Tie}
 use Rattle.offsets.proofs.LinearLaws.{of_le, of_lt, of_ltb, of_not_ltb, to_le, to_lt, of_add, of_sub, of_neg_up, of_neg_down, least_as_sum, most_as_sum}
 use Rattle.offsets.proofs.LinearLaws.{≤ℤ-trans}
 use Rattle.offsets.specs.Relax.{State, known, dist, lower, third, relaxed, relax_tie, relax_all}
+use Rattle.offsets.specs.TurnedTies.{turn, turned}
 use Rattle.offsets.specs.Offsets.{Placing, Places}
 use Rattle.offsets.proofs.PlacingLaws.{pick_ind, by_test}
 
@@ -50,14 +51,7 @@ abbrev pub arcs : List Tie → List Arc
 arcs [] = []
 arcs (t ∷ ts) = up_arc t ∷ (down_arc t ∷ arcs ts)
 
--- a tie turned round, and an arc between records that stand from place o on
-abbrev pub turn : Tie → Tie
-turn t = record { first = t.second; second = t.first; least = t.least; most = t.most }
-
-abbrev pub turned : List Tie → List Tie
-turned [] = []
-turned (t ∷ ts) = turn t ∷ turned ts
-
+-- an arc between records that stand from place o on
 abbrev pub at : ℕ → Arc → Arc
 at o a = record { from = o + a.from; to = o + a.to; rise = a.rise }
 

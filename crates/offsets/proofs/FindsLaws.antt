@@ -16,7 +16,8 @@ use Rattle.offsets.specs.declared.Tie.{Tie}
 use Rattle.offsets.proofs.LinearLaws.{of_le, to_le, to_eq, of_sub, of_pos, of_neg_up, of_neg_down}
 use Rattle.offsets.specs.Relax.{State, known, dist}
 use Rattle.offsets.specs.Offsets.{Placing, Places, Joined, self, Limit, itself, joined, free, cannot, limits, OffsetsAre, none, some}
-use Rattle.offsets.proofs.ArcLaws.{arcs3, turned}
+use Rattle.offsets.proofs.ArcLaws.{arcs3}
+use Rattle.offsets.specs.TurnedTies.{turned}
 use Rattle.offsets.proofs.PassLaws.{settled_is}
 use Rattle.offsets.proofs.SettleLaws.{passes}
 use Rattle.offsets.proofs.AnswerLaws.{limit_only}

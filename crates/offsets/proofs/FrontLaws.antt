@@ -13,7 +13,8 @@ use borrow.Author.Tests.{lt-ltb}
 use Rattle.book.specs.Basics.{In, here, there}
 use Rattle.offsets.specs.declared.Tie.{Tie}
 use Rattle.offsets.specs.Relax.{State, pick, known, dist, lower}
-use Rattle.offsets.proofs.ArcLaws.{Arc, arc, run, arcs3, turned, of_thirds, arc_length, run_length}
+use Rattle.offsets.proofs.ArcLaws.{Arc, arc, run, arcs3, of_thirds, arc_length, run_length}
+use Rattle.offsets.specs.TurnedTies.{turned}
 use Rattle.offsets.proofs.SettleLaws.{passes}
 use Rattle.offsets.proofs.PassLaws.{settled_is}
 use Rattle.offsets.proofs.ThirdLaws.{Ready, ready_inside}

@@ -25,7 +25,8 @@ use Rattle.offsets.proofs.LinearLaws.{up, down, of_le, to_le, of_add, of_sub, of
 use Rattle.offsets.specs.Relax.{known, dist}
 use Rattle.offsets.proofs.PlacingLaws.{Under, under_lower}
 use Rattle.offsets.specs.Offsets.{Placing, Places, Joined, self}
-use Rattle.offsets.proofs.ArcLaws.{Arc, up_arc, down_arc, arcs, arcs3, at, turned, of_thirds, arc_in_first, arc_in_second, arc_in_third, length_arcs3}
+use Rattle.offsets.proofs.ArcLaws.{Arc, up_arc, down_arc, arcs, arcs3, at, of_thirds, arc_in_first, arc_in_second, arc_in_third, length_arcs3}
+use Rattle.offsets.specs.TurnedTies.{turned}
 use Rattle.offsets.proofs.ArcLaws.{in_up}
 use Rattle.offsets.proofs.ArcLaws.{in_down, Keeps, keeps_places, sums_meet}
 use Rattle.offsets.proofs.SettleLaws.{passes, passes_settle, span, span_length, span_in, span_all}

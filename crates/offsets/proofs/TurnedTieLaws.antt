@@ -11,7 +11,7 @@ use Rattle.book.specs.Basics.{In, here, there}
 use Rattle.offsets.specs.declared.Tie.{Tie}
 use Rattle.offsets.proofs.LinearLaws.{of_le, to_le, of_sub, of_neg_up, of_neg_down}
 use Rattle.offsets.specs.Offsets.{Placing, Meets, Places, Joined, self, onward}
-use Rattle.offsets.proofs.ArcLaws.{turn, turned}
+use Rattle.offsets.specs.TurnedTies.{turn, turned}
 use Rattle.offsets.proofs.ThirdLaws.{Allowed, Ready}
 
 abbrev pub neg : Placing → Placing
