@@ -1,4 +1,4 @@
-"""How the prover is asked of a changed copy of a crate: for tools/mutate and tools/refuse."""
+"""How the prover is asked of a changed copy of a crate: for tools/mutate."""
 import os
 import pathlib
 import re
@@ -13,22 +13,22 @@ ERROR = re.compile(r"^(\S+?): error: (.*)", re.M)
 
 
 def home():
-    """The toolchain's folder."""
-    return pathlib.Path(os.environ.get("RATTLE_HOME") or pathlib.Path(shutil.which("rt") or sys.exit("rt is missing")).resolve().parents[1])
+    """The kit's folder."""
+    return pathlib.Path(shutil.which("rt") or sys.exit("rt is missing")).resolve().parents[1]
 
 
 def words(name, root, incremental):
     """The words of a check, as rt has them; over an incremental folder, if there is one, what did not change is not proved again."""
     kit = home()
-    own = kit / "on" / os.uname().machine
-    line = next(line for line in (ROOT / "crates.txt").read_text().splitlines() if line.split(":")[0] == name)
-    found = ["--crate-name", name, str(root), "--extern", f"std={own}/rlib/std.rlib"]
-    for below in line.split(":")[1].split():
-        built = ROOT / "target/rlib" / f"{below}.rlib"
-        found += ["--extern", f"{below}={built if (CRATES / below).is_dir() else own / 'rlib' / f'{below}.rlib'}"]
-    found += ["-L", f"dependency={ROOT}/target/rlib", "-L", f"dependency={own}/rlib", "--antt-project", f"{kit}/logic/antt-project.json"]
-    found += ["--logic-built", str(own / "logic-built")]
-    return [str(own / "bin/rattle"), "check", *found, *(["--incremental", str(incremental)] if incremental else [])]
+    lines = [line.split("#")[0].partition(":") for line in (ROOT / "crates.txt").read_text().splitlines()]
+    kind, below = next((left.split()[1:], right.split()) for left, _, right in lines if left.split()[:1] == [name])
+    found = ["--crate-name", name, str(root), "--extern", f"std={kit}/rlibs/std.rlib", "-L", f"dependency={kit}/rlibs"]
+    for crate in below:
+        built = CRATES / crate / "out/rlib"
+        found += ["--extern", f"{crate}={built}/{crate}.rlib", "-L", f"dependency={built}"]
+    found += ["--antt-project", f"{kit}/rattle/logic/antt-project.json", "--logic-built", f"{kit}/logic_built", "--links", f"{name}="]
+    found += ["--crate-type", "staticlib"] if "staticlib" in kind else []
+    return [f"{kit}/bin/rattle", "check", *found, *(["--incremental", str(incremental)] if incremental else [])]
 
 
 def copied(name, folder):

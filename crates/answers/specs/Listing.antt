@@ -4,10 +4,7 @@
 --   Grown t s ks before after
 --                   a list that shows t words, and then ks, shows s words
 -- Assumes nothing: these are definitions.
-use mathlib.Core.Path.{_≡_}
-use mathlib.Core.List.{List, _++_}
-use Prim.Native.Nat.{ℕ}
-use lib.ListN.{length, take, drop}
+use Rattle.std.specs.Prelude.{◌≡◌, List, ◌++◌, ℕ, length, take, drop}
 
 abbrev pub Shown : List ℕ → List ℕ → List ℕ → Type 0
 Shown l before after = after ≡ take (length before) l ++ drop (length l) before

@@ -2,10 +2,7 @@
 --   written p t l    the list l with the text t written over it from place p on
 --   Wrote p t l m q  a call that was given the contents l and the place p wrote t there: it left m, and handed back q, the place after t, within l
 -- Assumes nothing: these are definitions.
-use mathlib.Core.Path.{_≡_}
-use mathlib.Core.List.{List, _++_}
-use Prim.Native.Nat.{ℕ, _+_, _≤_}
-use lib.ListN.{length, take, drop}
+use Rattle.std.specs.Prelude.{◌≡◌, List, ◌++◌, ℕ, ◌+◌, ◌≤◌, length, take, drop}
 
 unfoldable pub written : ℕ → List ℕ → List ℕ → List ℕ
 written p t l = take p l ++ (t ++ drop (p + length t) l)

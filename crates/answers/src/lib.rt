@@ -1,13 +1,13 @@
 // What a call that counts answers, and how it is told as one number; words written into a list that is lent, one copy for each width.
-ghost use mathlib.Core.Path.{_≡_};
-ghost use mathlib.Core.List.{[], _∷_};
-ghost use Prim.Native.Nat.{_+_, _≤_};
-ghost use lib.ListN.{length};
-ghost use Rattle·answers·specs.specs.Answers.{refusal, toldCounted};
-ghost use Rattle·answers·specs.specs.Listing.{Grown};
-ghost use Rattle·answers·specs.specs.Written.{Wrote};
+#![tactic(auto)]
+
+ghost use Rattle.std.specs.Prelude.{◌≡◌, [], ◌∷◌, ◌+◌, ◌≤◌, length};
+ghost use Rattle.answers.specs.Answers.{refusal, told_counted};
+ghost use Rattle.answers.specs.Listing.{Grown};
+ghost use Rattle.answers.specs.Written.{Wrote};
 
 // The answer of a call that counts: how many there are, or refused with the number of the cause.
+#[derive(Clone, Copy)]
 pub enum Counted {
     Count(usize),
     Refused(u32),
@@ -21,14 +21,14 @@ const REFUSAL: u64 = 2 * PAST_COUNTS;
 
 // A refusal told as 64 bits.
 pub fn told_refusal(number: u32) -> u64
-    ensures { λ k. ⌜ k ≡ refusal number ⌝ }
+    ensures { result ≡ refusal number }
 {
     REFUSAL + number as u64
 }
 
 // A count or a refusal told as 64 bits.
 pub fn told(answer: Counted) -> u64
-    ensures { λ k. ⌜ k ≡ toldCounted answer ⌝ }
+    ensures { result ≡ told_counted answer }
 {
     match answer {
         Counted::Count(count) => count as u64,
@@ -38,8 +38,8 @@ pub fn told(answer: Counted) -> u64
 
 // Bytes written into a list from a place on; the place after them.
 pub fn copy_u8(from: &[u8], to: &mut [u8], at: usize) -> usize
-    requires { ⌜ at + length (now from) ≤ length (now to) ⌝ }
-    ensures { λ r. ⌜ Wrote at (now (from .entry)) (now (to .entry)) (now (to .exit)) r ⌝ }
+    requires { at + length from.now ≤ length to.old }
+    ensures { Wrote at from.now to.old to.new result }
 {
     let mut i = 0;
     while i < from.len() {
@@ -51,8 +51,8 @@ pub fn copy_u8(from: &[u8], to: &mut [u8], at: usize) -> usize
 
 // Words of 64 bits, likewise.
 pub fn copy_u64(from: &[u64], to: &mut [u64], at: usize) -> usize
-    requires { ⌜ at + length (now from) ≤ length (now to) ⌝ }
-    ensures { λ r. ⌜ Wrote at (now (from .entry)) (now (to .entry)) (now (to .exit)) r ⌝ }
+    requires { at + length from.now ≤ length to.old }
+    ensures { Wrote at from.now to.old to.new result }
 {
     let mut i = 0;
     while i < from.len() {
@@ -64,8 +64,8 @@ pub fn copy_u64(from: &[u64], to: &mut [u64], at: usize) -> usize
 
 // Words of 32 bits, likewise.
 pub fn copy_u32(from: &[u32], to: &mut [u32], at: usize) -> usize
-    requires { ⌜ at + length (now from) ≤ length (now to) ⌝ }
-    ensures { λ r. ⌜ Wrote at (now (from .entry)) (now (to .entry)) (now (to .exit)) r ⌝ }
+    requires { at + length from.now ≤ length to.old }
+    ensures { Wrote at from.now to.old to.new result }
 {
     let mut i = 0;
     while i < from.len() {
@@ -77,7 +77,7 @@ pub fn copy_u32(from: &[u32], to: &mut [u32], at: usize) -> usize
 
 // A word written at place t, if the list is that long.
 pub fn put_u32(out: &mut [u32], t: usize, v: u32)
-    ensures { λ _. ⌜ Grown t (t + 1) (v ∷ []) (now (out .entry)) (now (out .exit)) ⌝ }
+    ensures { Grown t (t + 1) (v ∷ []) out.old out.new }
 {
     if t < out.len() {
         out[t] = v;

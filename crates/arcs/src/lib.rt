@@ -1,10 +1,10 @@
 // The crossings of a sheet's links as arcs, and an index that leads from a record to its arcs.
-ghost use mathlib.Core.Path.{_≡_};
-ghost use Prim.Native.Nat.{ℕ, _+_, _*_, _<_, _≤_};
-ghost use lib.ListN.{length, getD};
-ghost use Rattle·book.specs.Causes.{maxRecords, maxLinks};
-ghost use Rattle·arcs·specs.specs.Arcs.{maxArcs, arcOf, arcFrom, arcTo, Crossings, NoUse, PutIf};
-ghost use Rattle·arcs·specs.specs.Index.{keyAt, firstArc, nextArc, Indexed, Indexing};
+#![tactic(auto)]
+
+ghost use Rattle.std.specs.Prelude.{◌≡◌, ℕ, ◌+◌, ◌*◌, ◌<◌, ◌≤◌, length, get_or};
+ghost use Rattle.book.specs.Causes.{max_records, max_links};
+ghost use Rattle.arcs.specs.Arcs.{max_arcs, arc_of, arc_from, arc_to, Crossings, NoUse, PutIf};
+ghost use Rattle.arcs.specs.Index.{key_at, first_arc, next_arc, Indexed, Indexing};
 
 // An arc's word is its letter, the record left and the record reached, each times its unit; a link's word has its label in the letter's place. A set of labels
 // has room for so many.
@@ -27,7 +27,7 @@ pub const FEW_INDEX_WORDS: usize = book::MAX_RECORDS + FEW_ARCS;
 
 // The word of a link crossed, forward or against its sense.
 fn arc(link: u32, sense: u32) -> u32
-    ensures { λ r. ⌜ r ≡ arcOf link sense ⌝ }
+    ensures { result ≡ arc_of link sense }
 {
     let label = link / LETTER_UNIT % LABEL_SETS;
     let from = link / RECORD_UNIT % RECORD_UNIT;
@@ -40,8 +40,8 @@ fn arc(link: u32, sense: u32) -> u32
 
 // The arc at the place `count`, if its letter enters a state. How many are there now?
 fn put(arcs: &mut [u32], count: usize, arc: u32, states: u64) -> usize
-    requires { ⌜ count < length (now arcs) ⌝ }
-    ensures { λ r. ⌜ PutIf states arc (now (arcs .entry)) count (now (arcs .exit)) r ⌝ }
+    requires { count < length arcs.old }
+    ensures { PutIf states arc arcs.old count arcs.new result }
 {
     if states == 0 {
         return count;
@@ -52,8 +52,8 @@ fn put(arcs: &mut [u32], count: usize, arc: u32, states: u64) -> usize
 
 // The first link from the place `at` on of which a letter enters a state: its place, or the number of links if there is none.
 fn next_of_use(links: &[u32], enter: &[u64], at: usize) -> usize
-    requires { ⌜ (at ≤ length (now links)) × (length (now enter) ≡ 64) ⌝ }
-    ensures { λ r. ⌜ (at ≤ r) × (r ≤ length (now (links .entry))) × NoUse (now (links .entry)) (now (enter .entry)) at r ⌝ }
+    requires { (at ≤ length links.now) × (length enter.now ≡ 64) }
+    ensures { (at ≤ result) × (result ≤ length links.now) × NoUse links.now enter.now at result }
 {
     let mut i = at;
     while i < links.len() {
@@ -71,9 +71,9 @@ fn next_of_use(links: &[u32], enter: &[u64], at: usize) -> usize
 
 // The crossings that can be of use, into `arcs`: each link in each sense whose letter enters a state. How many are they?
 pub fn arcs_of(links: &[u32], enter: &[u64], arcs: &mut [u32]) -> usize
-    requires { ⌜ (length (now links) ≤ maxLinks) × (length (now enter) ≡ 64) × (2 * length (now links) ≤ length (now arcs)) ⌝ }
-    ensures { λ r. ⌜ (r ≤ 2 * length (now (links .entry))) × Crossings (now (links .entry)) (now (enter .entry))
-        (2 * length (now (links .entry))) (now (arcs .exit)) r ⌝ }
+    requires { (length links.now ≤ max_links) × (length enter.now ≡ 64) × (2 * length links.now ≤ length arcs.old) }
+    ensures { (result ≤ 2 * length links.now) × Crossings links.now enter.now
+        (2 * length links.now) arcs.new result }
 {
     let mut count = 0;
     let mut i = next_of_use(links, enter, 0);
@@ -95,8 +95,8 @@ const LEFT: u32 = 10;
 // The arcs by the record whose bits begin at `key`, into an index of zeros: at r the last arc of the record r, at 1,024 + j the one before arc j of the
 // same record, each time its number and 1, or 0 for none.
 fn index_of(arcs: &[u32], key: u32, index: &mut [u16])
-    requires { ⌜ Indexing (now arcs) key (now index) ⌝ }
-    ensures { λ _. ⌜ Indexed (keyAt (now (arcs .entry)) key) (length (now (arcs .entry))) (now (index .exit)) ⌝ }
+    requires { Indexing arcs.now key index.old }
+    ensures { Indexed (key_at arcs.now key) (length arcs.now) index.new }
 {
     let mut j = 0;
     while j < arcs.len() {
@@ -109,32 +109,32 @@ fn index_of(arcs: &[u32], key: u32, index: &mut [u16])
 
 // The arcs by the record reached.
 pub fn index_by_reached(arcs: &[u32], index: &mut [u16])
-    requires { ⌜ (length (now arcs) ≤ maxArcs) × (maxRecords + length (now arcs) ≤ length (now index)) × ((r : ℕ) → getD (now index) r 0 ≡ 0) ⌝ }
-    ensures { λ _. ⌜ Indexed (arcTo (now (arcs .entry))) (length (now (arcs .entry))) (now (index .exit)) ⌝ }
+    requires { (length arcs.now ≤ max_arcs) × (max_records + length arcs.now ≤ length index.old) × ((r : ℕ) → get_or index.old r 0 ≡ 0) }
+    ensures { Indexed (arc_to arcs.now) (length arcs.now) index.new }
 {
     index_of(arcs, REACHED, index);
 }
 
 // The arcs by the record left.
 pub fn index_by_left(arcs: &[u32], index: &mut [u16])
-    requires { ⌜ (length (now arcs) ≤ maxArcs) × (maxRecords + length (now arcs) ≤ length (now index)) × ((r : ℕ) → getD (now index) r 0 ≡ 0) ⌝ }
-    ensures { λ _. ⌜ Indexed (arcFrom (now (arcs .entry))) (length (now (arcs .entry))) (now (index .exit)) ⌝ }
+    requires { (length arcs.now ≤ max_arcs) × (max_records + length arcs.now ≤ length index.old) × ((r : ℕ) → get_or index.old r 0 ≡ 0) }
+    ensures { Indexed (arc_from arcs.now) (length arcs.now) index.new }
 {
     index_of(arcs, LEFT, index);
 }
 
 // The first arc of the record r: its number and 1, or 0 for none.
 pub fn first_arc(index: &[u16], r: usize) -> usize
-    requires { ⌜ r < length (now index) ⌝ }
-    ensures { λ p. ⌜ p ≡ firstArc (now (index .entry)) r ⌝ }
+    requires { r < length index.now }
+    ensures { result ≡ first_arc index.now r }
 {
     index[r] as usize
 }
 
 // The arc after arc j of the same record: its number and 1, or 0 for none.
 pub fn next_arc(index: &[u16], j: usize) -> usize
-    requires { ⌜ (maxRecords + j < length (now index)) × (j < maxArcs) ⌝ }
-    ensures { λ p. ⌜ p ≡ nextArc (now (index .entry)) j ⌝ }
+    requires { (max_records + j < length index.now) × (j < max_arcs) }
+    ensures { result ≡ next_arc index.now j }
 {
     index[book::MAX_RECORDS + j] as usize
 }

@@ -12,13 +12,10 @@
 --   automaton e     the automaton of an expression
 --   Run M q w       an accepted run: from the state q, entering a state by each letter of w, to a final state
 -- Assumes nothing: these are definitions.
-use mathlib.Core.List.{List, [], _∷_}
-use mathlib.Core.Bool.{Bool}
-use Prim.Native.Nat.{ℕ, suc, _+_, _<_, max, min}
-use lib.Dec.{eqb}
-use Rattle·book.specs.Basics.{bit}
-use Rattle·paths.specs.Expressions.{Letter, standsFor, Expr, symbol, group, inverse, star, plus, optional as optional-part, alternative, sequence, letters}
-use Rattle·paths.specs.Words.{inverseLetter}
+use Rattle.std.specs.Prelude.{List, [], ◌∷◌, Bool, ℕ, suc, ◌+◌, ◌<◌, max, min, eqb}
+use Rattle.book.specs.Basics.{bit}
+use Rattle.paths.specs.Expressions.{Letter, stands_for, Expr, symbol, group, inverse, star, plus, optional as optional-part, alternative, sequence, letters}
+use Rattle.paths.specs.Words.{inverse_letter}
 
 abbrev pub On : ℕ → Type 0
 On x = 0 < x
@@ -37,35 +34,35 @@ unfoldable pub single : ℕ → (Letter → Bool) → Fragment
 single p f = record { nullable = 0; first = is p; last = is p; follow = λ q r. 0; enters = λ q a. min (is p q) (bit (f a)) }
 
 unfoldable pub reversed : Fragment → Fragment
-reversed A = record { nullable = A .nullable; first = A .last; last = A .first; follow = λ p q. A .follow q p; enters = λ q a. A .enters q (inverseLetter a) }
+reversed A = record { nullable = A.nullable; first = A.last; last = A.first; follow = λ p q. A.follow q p; enters = λ q a. A.enters q (inverse_letter a) }
 
 unfoldable pub repeated : Fragment → Fragment
 repeated A =
-    record { nullable = A .nullable; first = A .first; last = A .last; follow = λ p q. max (A .follow p q) (min (A .last p) (A .first q)); enters = A .enters }
+    record { nullable = A.nullable; first = A.first; last = A.last; follow = λ p q. max (A.follow p q) (min (A.last p) (A.first q)); enters = A.enters }
 
 unfoldable pub optional : Fragment → Fragment
-optional A = record { nullable = 1; first = A .first; last = A .last; follow = A .follow; enters = A .enters }
+optional A = record { nullable = 1; first = A.first; last = A.last; follow = A.follow; enters = A.enters }
 
 unfoldable pub either : Fragment → Fragment → Fragment
 either A B = record {
-  nullable = max (A .nullable) (B .nullable);
-  first = λ q. max (A .first q) (B .first q);
-  last = λ q. max (A .last q) (B .last q);
-  follow = λ p q. max (A .follow p q) (B .follow p q);
-  enters = λ q a. max (A .enters q a) (B .enters q a);
+  nullable = max A.nullable B.nullable;
+  first = λ q. max (A.first q) (B.first q);
+  last = λ q. max (A.last q) (B.last q);
+  follow = λ p q. max (A.follow p q) (B.follow p q);
+  enters = λ q a. max (A.enters q a) (B.enters q a);
 }
 
 unfoldable pub followed : Fragment → Fragment → Fragment
 followed A B = record {
-  nullable = min (A .nullable) (B .nullable);
-  first = λ q. max (A .first q) (min (A .nullable) (B .first q));
-  last = λ q. max (B .last q) (min (B .nullable) (A .last q));
-  follow = λ p q. max (max (A .follow p q) (B .follow p q)) (min (A .last p) (B .first q));
-  enters = λ q a. max (A .enters q a) (B .enters q a);
+  nullable = min A.nullable B.nullable;
+  first = λ q. max (A.first q) (min A.nullable (B.first q));
+  last = λ q. max (B.last q) (min B.nullable (A.last q));
+  follow = λ p q. max (max (A.follow p q) (B.follow p q)) (min (A.last p) (B.first q));
+  enters = λ q a. max (A.enters q a) (B.enters q a);
 }
 
 unfoldable pub fragment : Expr → ℕ → Fragment
-fragment (symbol s) o = single (suc o) (standsFor s)
+fragment (symbol s) o = single (suc o) (stands_for s)
 fragment (group e) o = fragment e o
 fragment (inverse e) o = reversed (fragment e o)
 fragment (star e) o = optional (repeated (fragment e o))
@@ -81,14 +78,14 @@ pub record Automaton : Type 0 where
 
 unfoldable pub started : Fragment → Automaton
 started A = record {
-  follow = λ p q. max (A .follow p q) (min (is 0 p) (A .first q));
-  final = λ q. max (A .last q) (min (is 0 q) (A .nullable));
-  enters = A .enters;
+  follow = λ p q. max (A.follow p q) (min (is 0 p) (A.first q));
+  final = λ q. max (A.last q) (min (is 0 q) A.nullable);
+  enters = A.enters;
 }
 
 abbrev pub automaton : Expr → Automaton
 automaton e = started (fragment e 0)
 
 pub data Run (M : Automaton) : ℕ → List Letter → Type 0 where
-  ends : {q : ℕ} → On (M .final q) → Run M q []
-  goes : {q q′ : ℕ} {a : Letter} {w : List Letter} → On (M .follow q q′) → On (M .enters q′ a) → Run M q′ w → Run M q (a ∷ w)
+  ends : {q : ℕ} → On (M.final q) → Run M q []
+  goes : {q q' : ℕ} {a : Letter} {w : List Letter} → On (M.follow q q') → On (M.enters q' a) → Run M q' w → Run M q (a ∷ w)

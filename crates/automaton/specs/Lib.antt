@@ -1,12 +1,4 @@
 pub mod Automata
-pub mod SetLaws
 pub mod Traces
-pub mod TraceLaws
-pub mod ReadLaws
-pub mod AutomatonLaws
 pub mod Masks
 pub mod Searches
-pub mod LevelLaws
-pub mod LowestLaws
-pub mod WalkLaws
-pub mod ShortChainLaws

@@ -3,14 +3,12 @@
 --   put p v f        f with v at place p
 --   either f g, both f g, minus f g
 --                    the bits of one or the other, of both, of the first and not the second
---   fourAt f p       the four bits from place p on as a number, the lowest first
+--   four_at f p       the four bits from place p on as a number, the lowest first
 --   Gap f lo p       no bit from place lo to p - 1
 --   Next f lo end r  r is the first place of a bit from lo on, or end if there is none before it
 -- Assumes nothing: these are definitions.
-use mathlib.Core.Path.{_≡_}
-use Prim.Native.Nat.{ℕ, _+_, _-_, _*_, _≤_, _<_, max, min}
-use lib.Dec.{eqb}
-use Rattle·book.specs.Basics.{pick}
+use Rattle.std.specs.Prelude.{◌≡◌, ℕ, ◌+◌, ◌-◌, ◌*◌, ◌≤◌, ◌<◌, max, min, eqb}
+use Rattle.book.specs.Basics.{pick}
 
 unfoldable pub none : ℕ → ℕ
 none k = 0
@@ -27,8 +25,8 @@ both f g k = min (f k) (g k)
 unfoldable pub minus : (ℕ → ℕ) → (ℕ → ℕ) → ℕ → ℕ
 minus f g k = f k - g k
 
-unfoldable pub fourAt : (ℕ → ℕ) → ℕ → ℕ
-fourAt f p = f p + 2 * f (p + 1) + 4 * f (p + 2) + 8 * f (p + 3)
+unfoldable pub four_at : (ℕ → ℕ) → ℕ → ℕ
+four_at f p = f p + 2 * f (p + 1) + 4 * f (p + 2) + 8 * f (p + 3)
 
 abbrev pub Gap : (ℕ → ℕ) → ℕ → ℕ → Type 0
 Gap f lo p = (k : ℕ) → lo ≤ k → k < p → f k ≡ 0

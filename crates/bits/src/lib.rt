@@ -1,15 +1,15 @@
 // These functions read, set, count and find bits in slices of 64-bit words: bit p is bit p % 64 of word p / 64.
-// What they promise is stated by `bitAt` and `onesBelow` of crate k2, and by specs/BitSets.antt.
-ghost use mathlib.Core.Path.{_≡_};
-ghost use Prim.Native.Nat.{_+_, _*_, _/_, _%_, _^_, _<_, _≤_, min};
-ghost use lib.ListN.{length, replicate};
-ghost use lib.Count.{trailingZeros};
-ghost use Rattle·k2.specs.Bits.{bitAt, onesBelow};
-ghost use Rattle·bits·specs.specs.BitSets.{put, fourAt, Next};
+// What they promise is stated by `bit_at` and `ones_below` of crate k2, and by specs/BitSets.antt.
+#![tactic(auto)]
+
+ghost use Rattle.std.specs.Prelude.{◌≡◌, ◌+◌, ◌*◌, ◌/◌, ◌%◌, ◌^◌, ◌<◌, ◌≤◌, min, length, replicate};
+ghost use Rattle.std.specs.Int.Count.{count_trailing_zeros};
+ghost use Rattle.k2.specs.Bits.{bit_at, ones_below};
+ghost use Rattle.bits.specs.BitSets.{put, four_at, Next};
 
 // The bit at p; 0 past the end.
 pub fn bit(words: &[u64], p: usize) -> u64
-    ensures { λ r. ⌜ r ≡ bitAt (now (words .entry)) p ⌝ }
+    ensures { result ≡ bit_at words.now p }
 {
     let q = p / 64;
     if q < words.len() {
@@ -21,8 +21,8 @@ pub fn bit(words: &[u64], p: usize) -> u64
 
 // Set the bit at p.
 pub fn set_bit(words: &mut [u64], p: usize)
-    requires { ⌜ p / 64 < length (now words) ⌝ }
-    ensures { λ _. ⌜ bitAt (now (words .exit)) ≡ put p 1 (bitAt (now (words .entry))) ⌝ }
+    requires { p / 64 < length words.old }
+    ensures { bit_at words.new ≡ put p 1 (bit_at words.old) }
 {
     let q = p / 64;
     words[q] = words[q] | (1 << (p % 64));
@@ -30,8 +30,8 @@ pub fn set_bit(words: &mut [u64], p: usize)
 
 // The four bits from p on, a multiple of 4; 0 past the end.
 pub fn four(words: &[u64], p: usize) -> u64
-    requires { ⌜ p % 4 ≡ 0 ⌝ }
-    ensures { λ r. ⌜ r ≡ fourAt (bitAt (now (words .entry))) p ⌝ }
+    requires { p % 4 ≡ 0 }
+    ensures { result ≡ four_at (bit_at words.now) p }
 {
     let q = p / 64;
     if q < words.len() {
@@ -43,7 +43,7 @@ pub fn four(words: &[u64], p: usize) -> u64
 
 // All words 0.
 pub fn clear(words: &mut [u64])
-    ensures { λ _. ⌜ now (words .exit) ≡ replicate (length (now (words .entry))) 0 ⌝ }
+    ensures { words.new ≡ replicate (length words.old) 0 }
 {
     let mut i = 0;
     while i < words.len() {
@@ -54,7 +54,7 @@ pub fn clear(words: &mut [u64])
 
 // How many of the bits 0 to p - 1 are set.
 pub fn rank(words: &[u64], p: usize) -> usize
-    ensures { λ r. ⌜ r ≡ onesBelow (bitAt (now (words .entry))) p ⌝ }
+    ensures { result ≡ ones_below (bit_at words.now) p }
 {
     let q = p / 64;
     if words.len() <= q {
@@ -65,8 +65,8 @@ pub fn rank(words: &[u64], p: usize) -> usize
 
 // How many bits of the first `count` words are set.
 fn ones(words: &[u64], count: usize) -> usize
-    requires { ⌜ (count ≤ length (now words)) × (count * 64 < 2 ^ 64) ⌝ }
-    ensures { λ r. ⌜ r ≡ onesBelow (bitAt (now (words .entry))) (count * 64) ⌝ }
+    requires { (count ≤ length words.now) × (count * 64 < 2 ^ 64) }
+    ensures { result ≡ ones_below (bit_at words.now) (count * 64) }
 {
     let mut n: usize = 0;
     let mut i = 0;
@@ -79,8 +79,8 @@ fn ones(words: &[u64], count: usize) -> usize
 
 // The first bit that is set from `lo` on, or `end` if there is none before it; words of 0 are passed at once.
 pub fn next(words: &[u64], lo: usize, end: usize) -> usize
-    requires { ⌜ lo ≤ end ⌝ }
-    ensures { λ r. ⌜ Next (bitAt (now (words .entry))) lo end r ⌝ }
+    requires { lo ≤ end }
+    ensures { Next (bit_at words.now) lo end result }
 {
     let mut q = lo / 64;
     if words.len() <= q {
@@ -106,8 +106,8 @@ pub fn next(words: &[u64], lo: usize, end: usize) -> usize
 
 // The place of the lowest digit of w that is set, the lowest digit of all being at `at`; at most `end`.
 fn lowest_set(at: usize, w: u64, end: usize) -> usize
-    requires { ⌜ at ≤ end ⌝ }
-    ensures { λ r. ⌜ r ≡ min end (at + trailingZeros 64 w) ⌝ }
+    requires { at ≤ end }
+    ensures { result ≡ min end (at + count_trailing_zeros 64 w) }
 {
     let k = u64::trailing_zeros(w) as usize;
     if k < end - at { at + k } else { end }

@@ -9,10 +9,7 @@
 --   over ws l       the list l with the words ws written over its front
 --   Rises m l       the numbers of l ascend, each once, the first at least m
 -- Assumes nothing: these are definitions.
-use mathlib.Core.List.{List, [], _∷_, _++_}
-use mathlib.Core.Bool.{Bool, true, false, _||_}
-use Prim.Native.Nat.{ℕ, suc, _+_, _≤_}
-use lib.ListN.{length, drop}
+use Rattle.std.specs.Prelude.{List, [], ◌∷◌, ◌++◌, Bool, true, false, ◌||◌, ℕ, suc, ◌+◌, ◌≤◌, length, drop}
 
 abbrev pub pick {ℓ} : {A : Type ℓ} → Bool → A → A → A
 pick true x y = x
@@ -26,8 +23,8 @@ pub data In {A : Type 0} (w : A) : List A → Type 0 where
   there : {v : A} {l : List A} → In w l → In w (v ∷ l)
 
 pub data All {A : Type 0} (P : A → Type 0) : List A → Type 0 where
-  all-none : All P []
-  all-more : {x : A} {l : List A} → P x → All P l → All P (x ∷ l)
+  all_none : All P []
+  all_more : {x : A} {l : List A} → P x → All P l → All P (x ∷ l)
 
 module _ {A : Type 0} (same : A → A → Bool) where
   unfoldable pub has : A → List A → Bool

@@ -1,42 +1,41 @@
 -- The orders in which causes are looked for, each as a list.
---   allCauses       every cause, in the order of Causes
---   editOrder, questionOrder, treeOrder, closeOrder, supportOrder, offsetsOrder
+--   all_causes       every cause, in the order of Causes
+--   edit_order, question_order, tree_order, close_order, support_order, offsets_order
 --                   the causes of each kind of call, in the order in which they are looked for
 --   InOrder cs os   the causes cs are some of the order os, in that order
 -- Assumes nothing: these are definitions.
-use mathlib.Core.List.{List, [], _∷_}
-use mathlib.Core.Bool.{Bool}
-use Rattle·book·specs.specs.Causes.{Cause, bad-size, no-record, bad-label, locked-end, already, missing, full, none-held, no-expression}
-use Rattle·book·specs.specs.Causes.{too-many-bytes, too-large, bad-tree, short-work, short-list, broken-frame, unknown-kind, not-open, touched-record}
-use Rattle·book·specs.specs.Causes.{withdrawn-record, bad-tie, unordered-anchors, none-in-use}
+use Rattle.std.specs.Prelude.{List, [], ◌∷◌, Bool}
+use Rattle.book.specs.Causes.{Cause, bad_size, no_record, bad_label, locked_end, already, missing, full, none_held, no_expression}
+use Rattle.book.specs.Causes.{too_many_bytes, too_large, bad_tree, short_work, short_list, broken_frame, unknown_kind, not_open, touched_record}
+use Rattle.book.specs.Causes.{withdrawn_record, bad_tie, unordered_anchors, none_in_use}
 
-unfoldable pub allCauses : List Cause
-allCauses =
-    bad-size ∷ no-record ∷ bad-label ∷ locked-end ∷ already ∷ missing ∷ full ∷ none-held ∷ no-expression ∷ too-many-bytes ∷ too-large ∷ bad-tree ∷ short-work ∷
-    short-list ∷ broken-frame ∷ unknown-kind ∷ not-open ∷ touched-record ∷ withdrawn-record ∷ bad-tie ∷ unordered-anchors ∷ none-in-use ∷ []
+unfoldable pub all_causes : List Cause
+all_causes =
+    bad_size ∷ no_record ∷ bad_label ∷ locked_end ∷ already ∷ missing ∷ full ∷ none_held ∷ no_expression ∷ too_many_bytes ∷ too_large ∷ bad_tree ∷ short_work ∷
+    short_list ∷ broken_frame ∷ unknown_kind ∷ not_open ∷ touched_record ∷ withdrawn_record ∷ bad_tie ∷ unordered_anchors ∷ none_in_use ∷ []
 
 -- the orders: edits 2, 18, 3, 4, 5, 6, 7, 17; questions 2, 10 for bytes, 9, 10 for letters and depth, 12, 13; trees 1, 2, 11, 12, 13;
 -- closing up 21, 13; sole support 2, 20, 10 for bytes, 9, 10 for letters and depth, 12, 13;
 -- offsets 2, 18, 19, 12, 13, with "cannot all hold", which is no refusal, before 13
-unfoldable pub editOrder : List Cause
-editOrder = no-record ∷ withdrawn-record ∷ bad-label ∷ locked-end ∷ already ∷ missing ∷ full ∷ touched-record ∷ []
+unfoldable pub edit_order : List Cause
+edit_order = no_record ∷ withdrawn_record ∷ bad_label ∷ locked_end ∷ already ∷ missing ∷ full ∷ touched_record ∷ []
 
-unfoldable pub questionOrder : List Cause
-questionOrder = no-record ∷ too-many-bytes ∷ no-expression ∷ too-large ∷ short-work ∷ short-list ∷ []
+unfoldable pub question_order : List Cause
+question_order = no_record ∷ too_many_bytes ∷ no_expression ∷ too_large ∷ short_work ∷ short_list ∷ []
 
-unfoldable pub treeOrder : List Cause
-treeOrder = bad-size ∷ no-record ∷ bad-tree ∷ short-work ∷ short-list ∷ []
+unfoldable pub tree_order : List Cause
+tree_order = bad_size ∷ no_record ∷ bad_tree ∷ short_work ∷ short_list ∷ []
 
-unfoldable pub closeOrder : List Cause
-closeOrder = none-in-use ∷ short-list ∷ []
+unfoldable pub close_order : List Cause
+close_order = none_in_use ∷ short_list ∷ []
 
-unfoldable pub supportOrder : List Cause
-supportOrder = no-record ∷ unordered-anchors ∷ too-many-bytes ∷ no-expression ∷ too-large ∷ short-work ∷ short-list ∷ []
+unfoldable pub support_order : List Cause
+support_order = no_record ∷ unordered_anchors ∷ too_many_bytes ∷ no_expression ∷ too_large ∷ short_work ∷ short_list ∷ []
 
-unfoldable pub offsetsOrder : List Cause
-offsetsOrder = no-record ∷ withdrawn-record ∷ bad-tie ∷ short-work ∷ short-list ∷ []
+unfoldable pub offsets_order : List Cause
+offsets_order = no_record ∷ withdrawn_record ∷ bad_tie ∷ short_work ∷ short_list ∷ []
 
 pub data InOrder : List (Cause × Bool) → List Cause → Type 0 where
-  none-left : {os : List Cause} → InOrder [] os
-  same-cause : {c : Cause} {t : Bool} {cs : List (Cause × Bool)} {os : List Cause} → InOrder cs os → InOrder ((c, t) ∷ cs) (c ∷ os)
-  passed-over : {o : Cause} {cs : List (Cause × Bool)} {os : List Cause} → InOrder cs os → InOrder cs (o ∷ os)
+  none_left : {os : List Cause} → InOrder [] os
+  same_cause : {c : Cause} {t : Bool} {cs : List (Cause × Bool)} {os : List Cause} → InOrder cs os → InOrder ((c, t) ∷ cs) (c ∷ os)
+  passed_over : {o : Cause} {cs : List (Cause × Bool)} {os : List Cause} → InOrder cs os → InOrder cs (o ∷ os)

@@ -3,13 +3,4 @@ pub mod Causes
 pub mod CauseOrders
 pub mod Book
 pub mod Sheets
-pub mod ListLaws
-pub mod SetLaws
-pub mod TotalLaws
-pub mod RankLaws
-pub mod CloseLaws
-pub mod BookLaws
-pub mod GivenLaws
-pub mod BookCases
 pub mod Orders
-pub mod OrderLaws

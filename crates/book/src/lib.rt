@@ -1,9 +1,8 @@
 // The numbers of the causes of a refusal, and the limits, have their names here, for the code of every crate above.
 // The contracts of `numbers` and `limits` say that each is the one that specs/Causes.antt has.
-ghost use mathlib.Core.Path.{_≡_};
-ghost use mathlib.Core.List.{map, [], _∷_};
-ghost use Rattle·book·specs.specs.Causes.{number, maxRecords, labels, maxLinks, maxHeld, maxBytes, maxLetters, maxDepth};
-ghost use Rattle·book·specs.specs.CauseOrders.{allCauses};
+ghost use Rattle.std.specs.Prelude.{◌≡◌, map, [], ◌∷◌};
+ghost use Rattle.book.specs.Causes.{number, max_records, labels, max_links, max_held, max_bytes, max_letters, max_depth};
+ghost use Rattle.book.specs.CauseOrders.{all_causes};
 
 pub const BAD_SIZE: u32 = 1;
 
@@ -65,7 +64,7 @@ pub const MAX_DEPTH: usize = 8;
 
 // The numbers of all causes, in the order of their definition.
 pub fn numbers() -> [u32; 22]
-    ensures { λ r. ⌜ r ≡ map number allCauses ⌝ }
+    ensures { result ≡ map number all_causes }
 {
     [
         BAD_SIZE,
@@ -95,7 +94,7 @@ pub fn numbers() -> [u32; 22]
 
 // The limits, in the order of their definition.
 pub fn limits() -> [usize; 7]
-    ensures { λ r. ⌜ r ≡ maxRecords ∷ labels ∷ maxLinks ∷ maxHeld ∷ maxBytes ∷ maxLetters ∷ maxDepth ∷ [] ⌝ }
+    ensures { result ≡ max_records ∷ labels ∷ max_links ∷ max_held ∷ max_bytes ∷ max_letters ∷ max_depth ∷ [] }
 {
     [
         MAX_RECORDS,

@@ -1,4 +1,2 @@
 pub mod Tables
-pub mod RequestTables
-pub mod Cases
 pub mod Texts

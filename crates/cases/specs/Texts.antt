@@ -1,20 +1,18 @@
 -- Texts and the number that their verdict gives, 0 for an expression: the faults of S3.4 and the limits of S8.2, negated sets among them, each by computation.
 --   rated          the number of the verdict on a text
 --   repeated k u   the bytes u, k times
---   texts          a table of texts with their numbers; texts-rated says that they are those
+--   texts          a table of texts with their numbers; texts_rated says that they are those
 -- Assumes nothing.
-use mathlib.Core.Path.{_≡_, refl}
-use mathlib.Core.List.{List, [], _∷_, _++_, map}
-use Prim.Native.Nat.{ℕ, zero, suc}
-use Rattle·book.specs.Causes.{number, firstNumber}
-use Rattle·paths.specs.Expressions.{letters, depth}
-use Rattle·paths.specs.Grammar.{verdictCause}
-use Rattle·paths.specs.Descent.{membersIn, alternativesIn, readAlternatives}
-use Rattle·paths.specs.Verdicts.{verdict}
-use Rattle·cases·specs.specs.Tables.{bytes}
+use Rattle.std.specs.Prelude.{◌≡◌, refl, List, [], ◌∷◌, ◌++◌, map, ℕ, zero, suc}
+use Rattle.book.specs.Causes.{number, first_number}
+use Rattle.paths.specs.Expressions.{letters, depth}
+use Rattle.paths.specs.Grammar.{verdict_cause}
+use Rattle.paths.specs.Descent.{members_in, alternatives_in, read_alternatives}
+use Rattle.paths.specs.Verdicts.{verdict}
+use Rattle.cases.specs.Tables.{bytes}
 
 unfoldable pub rated : List ℕ → ℕ
-rated s = firstNumber (verdictCause (verdict s))
+rated s = first_number (verdict_cause (verdict s))
 
 unfoldable pub repeated : ℕ → List ℕ → List ℕ
 repeated zero u = []
@@ -53,6 +51,6 @@ texts =
     (repeated 257 (bytes " "), 10) ∷
     (repeated 256 (bytes " "), 9) ∷ []
 
-pub texts-rated : map (λ t. rated (t .0)) texts ≡ map (λ t. t .1) texts
-unfolding texts rated repeated bytes firstNumber number verdictCause verdict readAlternatives alternativesIn membersIn letters depth
-texts-rated = refl
+pub texts_rated : map (λ t. rated t.0) texts ≡ map (λ t. t.1) texts
+unfolding texts rated repeated bytes first_number number verdict_cause verdict read_alternatives alternatives_in members_in letters depth
+texts_rated = refl

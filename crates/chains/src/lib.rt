@@ -1,25 +1,25 @@
 // Chain questions.
-ghost use mathlib.Core.Path.{_≡_};
-ghost use mathlib.Core.List.{List};
-ghost use Prim.Native.Nat.{ℕ, _≤_};
-ghost use lib.ListN.{length};
-ghost use Rattle·book.specs.Causes.{maxRecords, maxLinks};
-ghost use Rattle·book.specs.Book.{Book};
-ghost use Rattle·paths.specs.Expressions.{Expr};
-ghost use Rattle·paths.specs.Chains.{asked};
-ghost use Rattle·paths.specs.Verdicts.{InLimits};
-ghost use Rattle·reader.specs.Code.{code};
-ghost use Rattle·register.specs.Representation.{Represents};
-ghost use Rattle·register.specs.Reads.{ReadOf};
-ghost use Rattle·search.specs.Steps.{Untouched, Answered};
-ghost use Rattle·chains·specs.specs.Inner.{Searching};
-ghost use Rattle·chains·specs.specs.Replies.{Replies};
+#![tactic(auto)]
+
+ghost use Rattle.std.specs.Prelude.{◌≡◌, List, ℕ, ◌≤◌, length};
+ghost use Rattle.book.specs.Causes.{max_records, max_links};
+ghost use Rattle.book.specs.Book.{Book};
+ghost use Rattle.paths.specs.Expressions.{Expr};
+ghost use Rattle.paths.specs.Chains.{asked};
+ghost use Rattle.paths.specs.Verdicts.{InLimits};
+ghost use Rattle.reader.specs.Code.{code};
+ghost use Rattle.register.specs.Representation.{Represents};
+ghost use Rattle.register.specs.Reads.{ReadOf};
+ghost use Rattle.search.specs.Steps.{Untouched, Answered};
+ghost use Rattle.chains.specs.Inner.{Searching};
+ghost use Rattle.chains.specs.Replies.{Replies};
+
 use reader::Answer;
 use register::Register;
-use search::Ends;
-use search::Found;
+use search::{Ends, Found};
 
 // The number of steps, which the list has; no chain of any length; or the number of a cause.
+#[derive(Clone, Copy)]
 pub enum ChainAnswer {
     Chain(usize),
     NoChain,
@@ -36,11 +36,11 @@ fn sought(
     work: &mut [u64],
     list: &mut [u32],
 ) -> Found
-    requires { ⌜ Searching (now marks) (now links) (now numbers) from to (now work) ⌝ }
-    ensures { λ r. ⌜ Untouched (now (list .entry)) (now (list .exit)) r
-        × ((text : List ℕ) (e : Expr) → InLimits text e → now (numbers .entry) ≡ code e → (self : Register) (b : Book) → Represents self b
-        → ReadOf self (now (marks .entry)) (now (links .entry))
-        → Answered (asked b) e from to (now (list .entry)) (now (list .exit)) r) ⌝ }
+    requires { Searching marks.now links.now numbers.now from to work.old }
+    ensures { Untouched list.old list.new result
+        × ((text : List ℕ) (e : Expr) → InLimits text e → numbers.now ≡ code e → (self : Register) (b : Book) → Represents self b
+        → ReadOf self marks.now links.now
+        → Answered (asked b) e from to list.old list.new result) }
 {
     if marks[from] == register::WITHDRAWN_MARK {
         return Found::Nowhere;
@@ -71,9 +71,9 @@ pub fn chain_over(
     work: &mut [u64],
     list: &mut [u32],
 ) -> ChainAnswer
-    requires { ⌜ (length (now marks) ≤ maxRecords) × (length (now links) ≤ maxLinks) ⌝ }
-    ensures { λ r. ⌜ ((self : Register) → ReadOf self (now (marks .entry)) (now (links .entry))
-        → Replies self from to (now (text .entry)) (length (now (work .entry))) (now (list .entry)) (now (list .exit)) r) ⌝ }
+    requires { (length marks.now ≤ max_records) × (length links.now ≤ max_links) }
+    ensures { (self : Register) → ReadOf self marks.now links.now
+        → Replies self from to text.now (length work.old) list.old list.new result }
 {
     let n = marks.len();
     let x = from as usize;
@@ -112,7 +112,7 @@ pub fn chain(
     work: &mut [u64],
     list: &mut [u32],
 ) -> ChainAnswer
-    ensures { λ r. ⌜ Replies register from to (now (text .entry)) (length (now (work .entry))) (now (list .entry)) (now (list .exit)) r ⌝ }
+    ensures { Replies register from to text.now (length work.old) list.old list.new result }
 {
     let n = register.size();
     let marks = register.marks();

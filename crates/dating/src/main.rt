@@ -1,55 +1,78 @@
 // The program of the dating register reads frames from standard input and writes lines to standard output.
 // What a frame does and prints, where it ends and where a run ends, is proved of session::following and session::step, against
 // crates/session/specs/Program.antt. Here bytes are only read and written.
-use libc::STDERR_FILENO;
-use libc::STDIN_FILENO;
-use libc::STDOUT_FILENO;
-use session::Ran;
-use session::State;
-ghost use Prim.Native.Nat.{_+_, _≤_};
-ghost use lib.ListN.{length, take};
-ghost use Rattle·session.specs.Program.{programWords, maxFrame, following};
-ghost use Rattle·session.specs.Turns.{room};
-ghost use Rattle·session.specs.Runs.{Lends, Answered};
+#![tactic(auto)]
+
+ghost use Rattle.std.specs.Prelude.{◌+◌, ◌≤◌, length, take};
+ghost use Rattle.session.specs.Program.{program_words, max_frame, following};
+ghost use Rattle.session.specs.Turns.{room};
+ghost use Rattle.session.specs.Runs.{Lends, Answered};
+
+use session::{Ran, State};
+use std::io;
+use std::io::{Read, Stdin, Stdout};
 
 // How many bytes were read, what the turn over them came to, and whether what it printed could be written.
+#[derive(Clone, Copy)]
 struct Turned {
     got: usize,
     ran: Ran,
     sent: bool,
 }
 
+// Reads until the buffer is full, the input ends or a read fails, and tells how many bytes it put at the front.
+fn read_full(mut stdin: Stdin, buffer: &mut [u8]) -> usize
+    ensures { result ≤ length buffer.new }
+{
+    let mut done = 0;
+    while done < buffer.len() {
+        let got = stdin.read(&mut buffer[done..]).unwrap_or(0);
+        if got == 0 {
+            break;
+        }
+        done += got;
+    }
+    done
+}
+
 // Reads the next frame, to its end even if it comes in small pieces, and answers how many bytes it is: two for the length, and as many as
 // follow it. Fewer where the input ends.
-fn read_frame(bytes: &mut [u8]) -> usize
-    requires { ⌜ maxFrame + 2 ≤ length (now bytes) ⌝ }
-    ensures { λ r. ⌜ (r ≤ maxFrame + 2) × (r ≤ following (take r (now (bytes .exit))) + 2) ⌝ }
+fn read_frame(stdin: Stdin, bytes: &mut [u8]) -> usize
+    requires { max_frame + 2 ≤ length bytes.old }
+    ensures { (result ≤ max_frame + 2) × (result ≤ following (take result bytes.new) + 2) }
 {
-    let got = io::read_full(STDIN_FILENO, &mut bytes[..2]);
+    let got = read_full(stdin, &mut bytes[..2]);
     if got < 2 {
         return got;
     }
     let n = session::following(&bytes[..2]);
-    got + io::read_full(STDIN_FILENO, &mut bytes[2..n + 2])
+    got + read_full(stdin, &mut bytes[2..n + 2])
 }
 
 // Reads a frame into bytes and answers it, with out for what it prints.
-fn turn(state: State, bytes: &mut [u8], list: &mut [u32], out: &mut [u8]) -> Turned
-    requires { ⌜ maxFrame + 2 ≤ length (now bytes) ⌝ }
-    requires { ⌜ room (length (now list)) ≤ length (now out) ⌝ }
-    ensures { λ r. ⌜ Lends programWords state (now (list .entry)) (now (list .exit)) (take (r .got) (now (bytes .exit)))
-        (now (out .entry)) (now (out .exit)) (r .ran) ⌝ }
+fn turn(
+    stdin: Stdin,
+    stdout: Stdout,
+    state: State,
+    bytes: &mut [u8],
+    list: &mut [u32],
+    out: &mut [u8],
+) -> Turned
+    requires max_frame_in_bounds { max_frame + 2 ≤ length bytes.old }
+    requires list_in_bounds { room (length list.old) ≤ length out.old }
+    ensures { Lends program_words state list.old list.new (take result.got bytes.new)
+        out.old out.new result.ran }
 {
     let mut work = [0u64; session::WORDS];
-    let got = read_frame(bytes);
+    let got = read_frame(stdin, bytes);
     let ran = session::step(state, &bytes[..got], &mut work, list, out);
-    let sent = io::write_all(STDOUT_FILENO, &out[..ran.written]);
+    let sent = stdout.write_all(&out[..ran.written]).is_ok();
     Turned { got, ran, sent }
 }
 
 // Reads and answers frames, as long as there is more to do and what is printed can be written, and tells whether all of it was.
-fn answer_all() -> bool
-    ensures { λ r. ⌜ Answered r ⌝ }
+fn answer_all(stdin: Stdin, stdout: Stdout) -> bool
+    ensures { Answered result }
 {
     let mut state = session::unopened();
     let mut bytes = [0u8; session::FRAME_BYTES];
@@ -57,7 +80,7 @@ fn answer_all() -> bool
     let mut out = [0u8; session::PRINTED_BYTES];
     let mut turns = u64::MAX;
     while turns > 0 {
-        let turned = turn(state, &mut bytes, &mut list, &mut out);
+        let turned = turn(stdin, stdout, state, &mut bytes, &mut list, &mut out);
         let ran = turned.ran;
         let next = ran.state;
         state = next;
@@ -72,8 +95,10 @@ fn answer_all() -> bool
     true
 }
 
-fn main() {
-    if !answer_all() {
-        io::write_all(STDERR_FILENO, b"dating: cannot write\n");
+fn main(rt: HostRuntime) -> io::Result<()> {
+    if answer_all(rt.stdin(), rt.stdout()) {
+        Ok(())
+    } else {
+        rt.stderr().write_all(b"dating: cannot write\n")
     }
 }

@@ -1,2 +1,4 @@
+pub mod EndsLaws
+pub mod MadeLaws
 pub mod ListLaws
 pub mod AskLaws

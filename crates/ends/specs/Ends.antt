@@ -6,29 +6,25 @@
 --                   that for the starts of y: the records x such that (x, y) has a chain
 --   ends g e x, starts g e y
 --                   those lists, computed: a row and a column of the relation
---   joinedBy against g e x
+--   joined_by against g e x
 --                   the ends, or the starts where a chain is gone against its sense
---   endsOf against b x v
+--   ends_of against b x v
 --                   those of the record x, if the text is an expression
---   endsCauses b x v
+--   ends_causes b x v
 --                   the causes against either question, in their order
---   endsAnswer against b x v room
+--   ends_answer against b x v room
 --                   its outcome with room for so many in the list: how many records there are in all, and the first of them, as many as there is room for
 -- Assumes nothing: these are definitions.
-use mathlib.Core.List.{List, [], _∷_}
-use mathlib.Core.Bool.{Bool, true, false}
-use Prim.Native.Nat.{ℕ}
-use lib.ListN.{length, take}
-use lib.Dec.{leb}
-use Rattle·book.specs.Basics.{In, Rises}
-use Rattle·book.specs.Causes.{Cause, no-record, firstNumber}
-use Rattle·book.specs.Book.{Book}
-use Rattle·paths.specs.Expressions.{Expr}
-use Rattle·paths.specs.Grammar.{Verdict, accepted, long, outside, large, verdictCause}
-use Rattle·paths.specs.Chains.{Graph, asked, Has}
-use Rattle·paths.specs.Relations.{cells}
-use Rattle·paths.specs.Questions.{Outcome, paired, unless}
-use Rattle·rows.specs.Rows.{places}
+use Rattle.std.specs.Prelude.{List, [], ◌∷◌, Bool, true, false, ℕ, length, take, leb}
+use Rattle.book.specs.Basics.{In, Rises}
+use Rattle.book.specs.Causes.{Cause, no_record, first_number}
+use Rattle.book.specs.Book.{Book}
+use Rattle.paths.specs.Expressions.{Expr}
+use Rattle.paths.specs.Grammar.{Verdict, accepted, long, outside, large, verdict_cause}
+use Rattle.paths.specs.Chains.{Graph, asked, Has}
+use Rattle.paths.specs.Relations.{cells}
+use Rattle.paths.specs.Questions.{Outcome, paired, unless}
+use Rattle.rows.specs.Rows.{places}
 
 pub record Exactly (P : ℕ → Type 0) (l : List ℕ) : Type 0 where
   pub ascending : Rises 0 l
@@ -42,24 +38,24 @@ abbrev pub StartsAre : Graph → Expr → ℕ → List ℕ → Type 0
 StartsAre g e y l = Exactly (λ x. Has g e x y) l
 
 unfoldable pub ends : Graph → Expr → ℕ → List ℕ
-ends g e x = places (λ y. cells g e x y) (g .n)
+ends g e x = places (λ y. cells g e x y) g.n
 
 unfoldable pub starts : Graph → Expr → ℕ → List ℕ
-starts g e y = places (λ x. cells g e x y) (g .n)
+starts g e y = places (λ x. cells g e x y) g.n
 
-unfoldable pub joinedBy : Bool → Graph → Expr → ℕ → List ℕ
-joinedBy false g e x = ends g e x
-joinedBy true g e x = starts g e x
+unfoldable pub joined_by : Bool → Graph → Expr → ℕ → List ℕ
+joined_by false g e x = ends g e x
+joined_by true g e x = starts g e x
 
-unfoldable pub endsOf : Bool → Book → ℕ → Verdict → List ℕ
-endsOf against b x (accepted e) = joinedBy against (asked b) e x
-endsOf against b x long = []
-endsOf against b x outside = []
-endsOf against b x large = []
+unfoldable pub ends_of : Bool → Book → ℕ → Verdict → List ℕ
+ends_of against b x (accepted e) = joined_by against (asked b) e x
+ends_of against b x long = []
+ends_of against b x outside = []
+ends_of against b x large = []
 
-unfoldable pub endsCauses : Book → ℕ → Verdict → List (Cause × Bool)
-endsCauses b x v = (no-record, leb (b .n) x) ∷ verdictCause v
+unfoldable pub ends_causes : Book → ℕ → Verdict → List (Cause × Bool)
+ends_causes b x v = (no_record, leb b.n x) ∷ verdict_cause v
 
-unfoldable pub endsAnswer : Bool → Book → ℕ → Verdict → ℕ → Outcome
-endsAnswer against b x v room =
-    unless (firstNumber (endsCauses b x v)) (paired (length (endsOf against b x v)) (take room (endsOf against b x v)))
+unfoldable pub ends_answer : Bool → Book → ℕ → Verdict → ℕ → Outcome
+ends_answer against b x v room =
+    unless (first_number (ends_causes b x v)) (paired (length (ends_of against b x v)) (take room (ends_of against b x v)))

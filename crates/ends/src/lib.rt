@@ -1,30 +1,30 @@
 // The ends of one record, every record that a chain leads to from it, and its starts, from which one leads to it.
-ghost use mathlib.Core.Path.{_≡_};
-ghost use mathlib.Core.List.{List};
-ghost use Prim.Native.Nat.{ℕ, _≤_};
-ghost use lib.ListN.{length};
-ghost use Rattle·book.specs.Causes.{maxRecords, maxLinks};
-ghost use Rattle·book.specs.Book.{Book};
-ghost use Rattle·k2.specs.PairSets.{ifSet};
-ghost use Rattle·paths.specs.Expressions.{Expr};
-ghost use Rattle·paths.specs.Chains.{asked};
-ghost use Rattle·paths.specs.Verdicts.{InLimits};
-ghost use Rattle·reader.specs.Code.{code};
-ghost use Rattle·register.specs.Representation.{Represents};
-ghost use Rattle·register.specs.Reads.{ReadOf};
-ghost use Rattle·rows.specs.Rows.{places};
-ghost use Rattle·ends·specs.specs.Ends.{joinedBy};
-ghost use Rattle·answers.specs.Listing.{Shown, Grown};
-ghost use Rattle·ends·specs.specs.Asking.{AsksJoined, AsksEnds, AsksStarts};
-ghost use Rattle·ends·specs.specs.Listing.{meets, Searching};
+#![tactic(auto)]
+
+ghost use Rattle.std.specs.Prelude.{◌≡◌, List, ℕ, ◌≤◌, length};
+ghost use Rattle.book.specs.Causes.{max_records, max_links};
+ghost use Rattle.book.specs.Book.{Book};
+ghost use Rattle.k2.specs.PairSets.{if_set};
+ghost use Rattle.paths.specs.Expressions.{Expr};
+ghost use Rattle.paths.specs.Chains.{asked};
+ghost use Rattle.paths.specs.Verdicts.{InLimits};
+ghost use Rattle.reader.specs.Code.{code};
+ghost use Rattle.register.specs.Representation.{Represents};
+ghost use Rattle.register.specs.Reads.{ReadOf};
+ghost use Rattle.rows.specs.Rows.{places};
+ghost use Rattle.ends.specs.Ends.{joined_by};
+ghost use Rattle.answers.specs.Listing.{Shown, Grown};
+ghost use Rattle.ends.specs.Asking.{AsksJoined, AsksEnds, AsksStarts};
+ghost use Rattle.ends.specs.Listing.{meets, Searching};
+
 use answers::Counted;
 use reader::Answer;
 use register::Register;
 
 // The record y written at place t, if the states are not none and the list is that long. The place after it.
 fn write(out: &mut [u32], t: usize, states: u64, y: u32) -> usize
-    requires { ⌜ t ≤ maxRecords ⌝ }
-    ensures { λ s. ⌜ Grown t s (ifSet states y) (now (out .entry)) (now (out .exit)) ⌝ }
+    requires { t ≤ max_records }
+    ensures { Grown t result (if_set states y) out.old out.new }
 {
     if states == 0 {
         return t;
@@ -35,9 +35,9 @@ fn write(out: &mut [u32], t: usize, states: u64, y: u32) -> usize
 
 // How many of n records have one of the states; they are written to the list, ascending, as far as it takes them, and the words past them are left.
 fn list(seen: &[u64], states: u64, n: usize, out: &mut [u32]) -> usize
-    requires { ⌜ (n ≤ length (now seen)) × (n ≤ maxRecords) ⌝ }
-    ensures { λ r. ⌜ (r ≡ length (places (meets (now (seen .entry)) states) n))
-        × Shown (places (meets (now (seen .entry)) states) n) (now (out .entry)) (now (out .exit)) ⌝ }
+    requires { (n ≤ length seen.now) × (n ≤ max_records) }
+    ensures { (result ≡ length (places (meets seen.now states) n))
+        × Shown (places (meets seen.now states) n) out.old out.new }
 {
     let mut t = 0;
     let mut y = 0;
@@ -57,10 +57,10 @@ fn sought(
     x: usize,
     out: &mut [u32],
 ) -> usize
-    requires { ⌜ Searching (now marks) (now links) (now numbers) x ⌝ }
-    ensures { λ r. ⌜ ((l : List ℕ) × (r ≡ length l) × (r ≤ maxRecords) × Shown l (now (out .entry)) (now (out .exit))
-        × ((text : List ℕ) (e : Expr) → InLimits text e → now (numbers .entry) ≡ code e → (self : Register) (b : Book) → Represents self b
-        → ReadOf self (now (marks .entry)) (now (links .entry)) → l ≡ joinedBy against (asked b) e x)) ⌝ }
+    requires { Searching marks.now links.now numbers.now x }
+    ensures { (l : List ℕ) × (result ≡ length l) × (result ≤ max_records) × Shown l out.old out.new
+        × ((text : List ℕ) (e : Expr) → InLimits text e → numbers.now ≡ code e → (self : Register) (b : Book) → Represents self b
+        → ReadOf self marks.now links.now → l ≡ joined_by against (asked b) e x) }
 {
     if marks[x] == register::WITHDRAWN_MARK {
         return 0;
@@ -82,9 +82,9 @@ pub fn joined_over(
     against: bool,
     out: &mut [u32],
 ) -> Counted
-    requires { ⌜ (length (now marks) ≤ maxRecords) × (length (now links) ≤ maxLinks) ⌝ }
-    ensures { λ r. ⌜ ((self : Register) → ReadOf self (now (marks .entry)) (now (links .entry))
-        → AsksJoined against self to (now (text .entry)) (now (out .entry)) (now (out .exit)) r) ⌝ }
+    requires { (length marks.now ≤ max_records) × (length links.now ≤ max_links) }
+    ensures { (self : Register) → ReadOf self marks.now links.now
+        → AsksJoined against self to text.now out.old out.new result }
 {
     let x = to as usize;
     if marks.len() <= x {
@@ -101,7 +101,7 @@ pub fn joined_over(
 
 // The same of a register.
 fn list_joined(register: Register, to: u16, text: &[u8], against: bool, out: &mut [u32]) -> Counted
-    ensures { λ r. ⌜ AsksJoined against register to (now (text .entry)) (now (out .entry)) (now (out .exit)) r ⌝ }
+    ensures { AsksJoined against register to text.now out.old out.new result }
 {
     let n = register.size();
     let marks = register.marks();
@@ -113,14 +113,14 @@ fn list_joined(register: Register, to: u16, text: &[u8], against: bool, out: &mu
 
 // Every record that a chain leads to from the one, spelling a word of the expression: ascending, as many as the list takes.
 pub fn ends(register: Register, from: u16, text: &[u8], out: &mut [u32]) -> Counted
-    ensures { λ r. ⌜ AsksEnds register from (now (text .entry)) (now (out .entry)) (now (out .exit)) r ⌝ }
+    ensures { AsksEnds register from text.now out.old out.new result }
 {
     list_joined(register, from, text, false, out)
 }
 
 // Every record from which a chain leads to the one, likewise.
 pub fn starts(register: Register, to: u16, text: &[u8], out: &mut [u32]) -> Counted
-    ensures { λ r. ⌜ AsksStarts register to (now (text .entry)) (now (out .entry)) (now (out .exit)) r ⌝ }
+    ensures { AsksStarts register to text.now out.old out.new result }
 {
     list_joined(register, to, text, true, out)
 }

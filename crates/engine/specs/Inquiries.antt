@@ -1,5 +1,5 @@
 -- What `inquire` promises: a history and the questions after it, made by one function; and what any calls gave, of which demand 3 is a theorem.
---   Gave r t s      the register r at the end of a history gave, read and asked, what the transcript t and s say (DemandLaws `demand-3`)
+--   Gave r t s      the register r at the end of a history gave, read and asked, what the transcript t and s say (DemandLaws `demand_3`)
 --   Unasked k heard lists p c r
 --                   the history was refused with the number k, and no question asked: both are told that number, every list is as it was, and no record, no
 --                   link, no lock, no withdrawn record and no total but 0 is shown
@@ -11,71 +11,68 @@
 --                   refused if n is outside 1 to 1,024 (1), or `heard` is shorter than the answers or `lists` has fewer than 1,024 words for each closing
 --                   up (12), else made
 -- Assumes nothing: these are definitions.
-use mathlib.Core.Path.{_≡_}
-use mathlib.Core.List.{List, [], _++_}
-use Prim.Native.Nat.{ℕ, _<_}
-use lib.ListN.{length, take, drop, getD}
-use Rattle·book.specs.Causes.{labels}
-use Rattle·book.specs.Book.{fresh, after, givens}
-use Rattle·answers.specs.declared.Counted.{Counted}
-use Rattle·answers.specs.declared.Counted.the-variants.{Refused}
-use Rattle·paths.specs.Verdicts.{verdict}
-use Rattle·paths.specs.Questions.{Engine, pairsAnswer, Tells}
-use Rattle·register.specs.Calls.{answerOf}
-use Rattle·register.specs.History.{Lent, wordAnswers, callsOf, toldCalls, closings, laid, parts, replayNumber}
-use Rattle·register.specs.Marks.{freeMark}
-use Rattle·register.specs.Questions.{Sized, Listing, MarkList, TotalList}
-use Rattle·register.specs.declared.Register.{Register}
-use Rattle·register.specs.declared.Links.{Links}
-use Rattle·query.specs.Asking.{AsksFor}
-use Rattle·chains.specs.Replies.{BookReplies, Replies}
-use Rattle·chains.specs.declared.ChainAnswer.{ChainAnswer}
-use Rattle·chains.specs.declared.ChainAnswer.the-variants.{Refused as Unanswered}
-use Rattle·engine·specs.specs.Demand.{Question, Transcript, Shown, Demand}
-use Rattle·engine·specs.specs.declared.Ends.{Ends}
-use Rattle·engine·specs.specs.declared.Inquiry.{Inquiry}
+use Rattle.std.specs.Prelude.{◌≡◌, List, [], ◌++◌, ℕ, ◌<◌, length, take, drop, get_or}
+use Rattle.book.specs.Causes.{labels}
+use Rattle.book.specs.Book.{fresh, after, givens}
+use Rattle.answers.specs.declared.Counted.{Counted}
+use Rattle.answers.specs.declared.Counted.TheVariants.{Refused}
+use Rattle.paths.specs.Verdicts.{verdict}
+use Rattle.paths.specs.Questions.{Engine, pairs_answer, Tells}
+use Rattle.register.specs.Calls.{answer_of}
+use Rattle.register.specs.History.{Lent, word_answers, calls_of, told_calls, closings, laid, parts, replay_number}
+use Rattle.register.specs.Marks.{free_mark}
+use Rattle.register.specs.Questions.{Sized, Listing, MarkList, TotalList}
+use Rattle.register.specs.declared.Register.{Register}
+use Rattle.register.specs.declared.Links.{Links}
+use Rattle.query.specs.Asking.{AsksFor}
+use Rattle.chains.specs.Replies.{BookReplies, Replies}
+use Rattle.chains.specs.declared.ChainAnswer.{ChainAnswer}
+use Rattle.chains.specs.declared.ChainAnswer.TheVariants.{Refused as Unanswered}
+use Rattle.engine.specs.Demand.{Question, Transcript, Shown, Demand}
+use Rattle.engine.specs.declared.Ends.{Ends}
+use Rattle.engine.specs.declared.Inquiry.{Inquiry}
 
 pub record Gave (r : Register) (t : Transcript Counted ChainAnswer) (s : Shown) : Type 0 where
-  pub size : Sized r (t .size)
-  pub links : (ls : Links) × Listing r ls × (s .links ≡ take (ls .count) (ls .words))
-  pub marks : MarkList r (s .marks)
-  pub totals : TotalList r (s .totals)
-  pub pairs : AsksFor (t .pairs .about) r (verdict (t .pairs .text)) (t .pairs .work) (t .pairs .list .before) (t .pairs .list .after) (t .pairs .answer)
-  pub chain : Replies r (t .chain .about .from) (t .chain .about .to) (t .chain .text) (t .chain .work)
-      (t .chain .list .before) (t .chain .list .after) (t .chain .answer)
+  pub size : Sized r t.size
+  pub links : (ls : Links) × Listing r ls × (s.links ≡ take ls.count ls.words)
+  pub marks : MarkList r s.marks
+  pub totals : TotalList r s.totals
+  pub pairs : AsksFor t.pairs.about r (verdict t.pairs.text) t.pairs.work t.pairs.list.before t.pairs.list.after t.pairs.answer
+  pub chain : Replies r t.chain.about.from t.chain.about.to t.chain.text t.chain.work
+      t.chain.list.before t.chain.list.after t.chain.answer
 
 pub record Unasked (k : ℕ) (heard lists : Lent) (p : Question Engine Counted) (c : Question Ends ChainAnswer) (r : Inquiry) : Type 0 where
-  pub pairs : p .answer ≡ Refused k
-  pub chain : c .answer ≡ Unanswered k
-  pub told : heard .after ≡ heard .before
-  pub given : lists .after ≡ lists .before
-  pub list : p .list .after ≡ p .list .before
-  pub steps : c .list .after ≡ c .list .before
-  pub size : r .size ≡ 0
-  pub links : take (r .links .count) (r .links .words) ≡ []
-  pub marks : (x : ℕ) → getD (r .marks) x freeMark ≡ freeMark
-  pub totals : (l : ℕ) → l < labels → getD (r .totals) l 0 ≡ 0
+  pub pairs : p.answer ≡ Refused k
+  pub chain : c.answer ≡ Unanswered k
+  pub told : heard.after ≡ heard.before
+  pub given : lists.after ≡ lists.before
+  pub list : p.list.after ≡ p.list.before
+  pub steps : c.list.after ≡ c.list.before
+  pub size : r.size ≡ 0
+  pub links : take r.links.count r.links.words ≡ []
+  pub marks : (x : ℕ) → get_or r.marks x free_mark ≡ free_mark
+  pub totals : (l : ℕ) → l < labels → get_or r.totals l 0 ≡ 0
 
 pub record Inquired (n : ℕ) (words : List ℕ) (heard lists : Lent) (p : Question Engine Counted) (c : Question Ends ChainAnswer) (r : Inquiry) : Type 0 where
-  pub told : heard .after ≡ wordAnswers (fresh n) words ++ drop (length words) (heard .before)
-  pub given : lists .after ≡ laid (givens (fresh n) (callsOf words)) (lists .before)
-  pub pairs : Tells (pairsAnswer (p .about) (after (fresh n) (callsOf words)) (verdict (p .text)) (p .work) (length (p .list .before)))
-      (p .list .before) (p .list .after) (p .answer)
-  pub chain : BookReplies (after (fresh n) (callsOf words)) (c .about .from) (c .about .to) (c .text) (c .work) (c .list .before) (c .list .after) (c .answer)
+  pub told : heard.after ≡ word_answers (fresh n) words ++ drop (length words) heard.before
+  pub given : lists.after ≡ laid (givens (fresh n) (calls_of words)) lists.before
+  pub pairs : Tells (pairs_answer p.about (after (fresh n) (calls_of words)) (verdict p.text) p.work (length p.list.before))
+      p.list.before p.list.after p.answer
+  pub chain : BookReplies (after (fresh n) (calls_of words)) c.about.from c.about.to c.text c.work c.list.before c.list.after c.answer
   pub demand : Demand
       (record {
         n = n;
-        calls = callsOf words;
-        told = toldCalls words (heard .after);
-        lists = parts (closings (callsOf words)) lists;
-        size = r .size;
+        calls = calls_of words;
+        told = told_calls words heard.after;
+        lists = parts (closings (calls_of words)) lists;
+        size = r.size;
         pairs = p;
         chain = c;
       })
-      (record { links = take (r .links .count) (r .links .words); marks = r .marks; totals = r .totals })
+      (record { links = take r.links.count r.links.words; marks = r.marks; totals = r.totals })
 
 pub record Inquires (n : ℕ) (words : List ℕ) (heard lists : Lent) (p : Question Engine Counted) (c : Question Ends ChainAnswer) (r : Inquiry) : Type 0 where
-  pub answer : r .answer ≡ answerOf (replayNumber n words (heard .before) (lists .before))
-  pub refused : (replayNumber n words (heard .before) (lists .before) ≡ 0 → ⊥)
-      → Unasked (replayNumber n words (heard .before) (lists .before)) heard lists p c r
-  pub made : replayNumber n words (heard .before) (lists .before) ≡ 0 → Inquired n words heard lists p c r
+  pub answer : r.answer ≡ answer_of (replay_number n words heard.before lists.before)
+  pub refused : (replay_number n words heard.before lists.before ≡ 0 → ⊥)
+      → Unasked (replay_number n words heard.before lists.before) heard lists p c r
+  pub made : replay_number n words heard.before lists.before ≡ 0 → Inquired n words heard lists p c r

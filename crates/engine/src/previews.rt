@@ -1,11 +1,11 @@
 // A preview answers one pair question as if one edit or undo were made. The register is a value, so it and its held edits stay as they are.
 // What is promised is stated in specs/Previews.antt.
-ghost use lib.ListN.{length};
-ghost use Rattle·register.specs.Calls.{callOf};
-ghost use Rattle·engine·specs.specs.Previews.{Previews};
+ghost use Rattle.std.specs.Prelude.{length};
+ghost use Rattle.register.specs.Calls.{call_of};
+ghost use Rattle.engine.specs.Previews.{Previews};
+
 use answers::Counted;
-use register::Call;
-use register::Register;
+use register::{Call, Register};
 
 // The pairs of an expression if an edit or undo were made, as many as the list takes; how many they are in all. The edit's number comes before the
 // question's.
@@ -16,7 +16,7 @@ pub fn preview(
     work: &mut [u64],
     list: &mut [u32],
 ) -> Counted
-    ensures { λ a. ⌜ Previews register (callOf call) (now (text .entry)) (length (now (work .entry))) (now (list .entry)) (now (list .exit)) a ⌝ }
+    ensures { Previews register (call_of call) text.now (length work.old) list.old list.new result }
 {
     let outcome = register.apply(call);
     let answer = outcome.answer;

@@ -1,16 +1,13 @@
 // These functions work on labels: they tell whether one is out of range, and give their set as the bits of a number, the links that have one of them, and the
 // text of the loops over those links.
-ghost use mathlib.Core.Path.{_≡_};
-ghost use mathlib.Core.Bool.{false};
-ghost use Prim.Native.Nat.{_≤_};
-ghost use lib.ListN.{length, take};
-ghost use Rattle·book.specs.Causes.{maxLinks};
-ghost use Rattle·k2.specs.Bits.{digit};
-ghost use Rattle·paths.specs.Grammar.{open-group};
-ghost use Rattle·rows.specs.Rows.{places};
-ghost use Rattle·rows.specs.RowSets.{labelled};
-ghost use Rattle·generations·specs.specs.Generations.{above};
-ghost use Rattle·generations·specs.specs.Inner.{Contains, separatorAt, lettersAfter, loopText};
+ghost use Rattle.std.specs.Prelude.{◌≡◌, false, ◌≤◌, length, take};
+ghost use Rattle.book.specs.Causes.{max_links};
+ghost use Rattle.k2.specs.Bits.{digit};
+ghost use Rattle.paths.specs.Grammar.{open_group};
+ghost use Rattle.rows.specs.Rows.{places};
+ghost use Rattle.rows.specs.RowSets.{labelled};
+ghost use Rattle.generations.specs.Generations.{above};
+ghost use Rattle.generations.specs.Inner.{Contains, separator_at, letters_after, loop_text};
 
 // Labels are below this.
 const LABELS: u32 = book::LABELS as u32;
@@ -20,7 +17,7 @@ pub const TEXT_BYTES: usize = 2 * book::LABELS + 2;
 
 // Is a label above 25?
 pub fn any_above(labels: &[u8]) -> bool
-    ensures { λ r. ⌜ r ≡ above (now (labels .entry)) ⌝ }
+    ensures { result ≡ above labels.now }
 {
     let mut i = 0;
     while i < labels.len() {
@@ -34,8 +31,8 @@ pub fn any_above(labels: &[u8]) -> bool
 
 // The labels as a set.
 pub fn set_of(labels: &[u8]) -> u32
-    requires { ⌜ above (now labels) ≡ false ⌝ }
-    ensures { λ r. ⌜ Contains r (now (labels .entry)) ⌝ }
+    requires { above labels.now ≡ false }
+    ensures { Contains result labels.now }
 {
     let mut set: u32 = 0;
     let mut i = 0;
@@ -48,8 +45,8 @@ pub fn set_of(labels: &[u8]) -> u32
 
 // The words of the links whose label is in the set, into `kept`. How many are they?
 pub fn keep(words: &[u32], set: u32, kept: &mut [u32]) -> usize
-    requires { ⌜ (length (now words) ≤ maxLinks) × (length (now kept) ≡ maxLinks) ⌝ }
-    ensures { λ r. ⌜ (r ≤ maxLinks) × (take r (now (kept .exit)) ≡ labelled set (now (words .entry))) ⌝ }
+    requires { (length words.now ≤ max_links) × (length kept.old ≡ max_links) }
+    ensures { (result ≤ max_links) × (take result kept.new ≡ labelled set words.now) }
 {
     let mut count = 0;
     let mut i = 0;
@@ -66,8 +63,8 @@ pub fn keep(words: &[u32], set: u32, kept: &mut [u32]) -> usize
 
 // The letters of the set, each after a byte: ( before the first, | before every other. How many bytes are they?
 fn spell_labels(set: u32, text: &mut [u8]) -> usize
-    requires { ⌜ length (now text) ≡ 54 ⌝ }
-    ensures { λ r. ⌜ (r ≤ 52) × (take r (now (text .exit)) ≡ lettersAfter open-group (places (digit set) 26)) ⌝ }
+    requires { length text.old ≡ 54 }
+    ensures { (result ≤ 52) × (take result text.new ≡ letters_after open_group (places (digit set) 26)) }
 {
     let mut count = 0;
     let mut label: u32 = 0;
@@ -84,7 +81,7 @@ fn spell_labels(set: u32, text: &mut [u8]) -> usize
 
 // The byte before a letter at a place of the text.
 fn separator(place: usize) -> u8
-    ensures { λ r. ⌜ r ≡ separatorAt place ⌝ }
+    ensures { result ≡ separator_at place }
 {
     if place == 0 {
         return b'(';
@@ -94,8 +91,8 @@ fn separator(place: usize) -> u8
 
 // The text of the loops over links whose label is in the set. How many bytes are they?
 pub fn put_text(set: u32, text: &mut [u8]) -> usize
-    requires { ⌜ length (now text) ≡ 54 ⌝ }
-    ensures { λ r. ⌜ (r ≤ 54) × (take r (now (text .exit)) ≡ loopText (places (digit set) 26)) ⌝ }
+    requires { length text.old ≡ 54 }
+    ensures { (result ≤ 54) × (take result text.new ≡ loop_text (places (digit set) 26)) }
 {
     let count = spell_labels(set, text);
     text[count] = b')';

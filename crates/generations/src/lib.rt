@@ -1,31 +1,27 @@
 // Generations: the call gives the length of the longest run of links of some labels that ends at each record. If some record can return to itself over such
 // links, it gives the first loop of the smallest that can. What it promises is stated in specs/Generating.antt.
 // This file has what a caller sees. labels.rt has the labels and their links, depths.rt the depth of each record.
+#![tactic(auto)]
+
 mod depths;
 mod labels;
 
-ghost use mathlib.Core.Path.{_≡_};
-ghost use Prim.Native.Nat.{ℕ, _≤_};
-ghost use mathlib.Core.List.{List};
-ghost use lib.ListN.{length};
-ghost use Rattle·book.specs.Causes.{maxRecords};
-ghost use Rattle·k2.specs.PairSets.{IsSet};
-ghost use Rattle·rows.specs.RowSets.{crossedWords};
-ghost use Rattle·answers.specs.Written.{Wrote};
-ghost use Rattle·generations·specs.specs.Inner.{chosen, Smallest, Joined, Closed, Numbering};
-ghost use Rattle·generations·specs.specs.Generating.{Generates};
-ghost use Rattle·generations·specs.specs.Inner.{Looped};
+ghost use Rattle.std.specs.Prelude.{◌≡◌, ℕ, ◌≤◌, List, length};
+ghost use Rattle.book.specs.Causes.{max_records};
+ghost use Rattle.k2.specs.PairSets.{IsSet};
+ghost use Rattle.rows.specs.RowSets.{crossed_words};
+ghost use Rattle.answers.specs.Written.{Wrote};
+ghost use Rattle.generations.specs.Inner.{chosen, Smallest, Joined, Closed, Numbering};
+ghost use Rattle.generations.specs.Generating.{Generates};
+ghost use Rattle.generations.specs.Inner.{Looped};
+
 use chains::ChainAnswer;
 use depths::visit_all;
-use labels::TEXT_BYTES;
-use labels::any_above;
-use labels::keep;
-use labels::put_text;
-use labels::set_of;
-use register::Register;
-use register::WITHDRAWN_MARK;
+use labels::{TEXT_BYTES, any_above, keep, put_text, set_of};
+use register::{Register, WITHDRAWN_MARK};
 
 // How many numbers the list has; the steps of the loop that the list has; or the number of a cause.
+#[derive(Clone, Copy)]
 pub enum GenerationsAnswer {
     Numbers(usize),
     Loop(usize),
@@ -34,8 +30,8 @@ pub enum GenerationsAnswer {
 
 // How many of the records below n are in use, by their marks.
 fn count_in_use(marks: &[u32], n: usize) -> usize
-    requires { ⌜ (n ≤ maxRecords) × (length (now marks) ≡ maxRecords) ⌝ }
-    ensures { λ r. ⌜ ((ds : List ℕ) → r ≡ length (chosen (now (marks .entry)) ds n)) ⌝ }
+    requires { (n ≤ max_records) × (length marks.now ≡ max_records) }
+    ensures { (ds : List ℕ) → result ≡ length (chosen marks.now ds n) }
 {
     let mut count = 0;
     let mut y = 0;
@@ -50,8 +46,8 @@ fn count_in_use(marks: &[u32], n: usize) -> usize
 
 // The number of each record below n that is in use, by its depth. How many are they?
 fn write_numbers(marks: &[u32], depths: &[u32], n: usize, list: &mut [u32]) -> usize
-    requires { ⌜ Numbering (now marks) (now depths) n (now list) ⌝ }
-    ensures { λ r. ⌜ Wrote 0 (chosen (now (marks .entry)) (now (depths .entry)) n) (now (list .entry)) (now (list .exit)) r ⌝ }
+    requires { Numbering marks.now depths.now n list.old }
+    ensures { Wrote 0 (chosen marks.now depths.now n) list.old list.new result }
 {
     let mut count = 0;
     let mut y = 0;
@@ -67,8 +63,8 @@ fn write_numbers(marks: &[u32], depths: &[u32], n: usize, list: &mut [u32]) -> u
 
 // The smallest record below n that is joined to itself; n if none is.
 fn first_joined(rows: &[u64], n: usize) -> usize
-    requires { ⌜ n ≤ maxRecords ⌝ }
-    ensures { λ r. ⌜ Smallest (Joined (now (rows .entry))) n r ⌝ }
+    requires { n ≤ max_records }
+    ensures { Smallest (Joined rows.now) n result }
 {
     let mut x = 0;
     while x < n {
@@ -82,8 +78,8 @@ fn first_joined(rows: &[u64], n: usize) -> usize
 
 // The smallest record below n that one or more links whose label is in the set lead back to; n if there is none.
 fn first_returning(words: &[u32], set: u32, n: usize) -> usize
-    requires { ⌜ n ≤ maxRecords ⌝ }
-    ensures { λ r. ⌜ (r ≤ n) × (IsSet n (crossedWords (now (words .entry)) set 0) → Smallest (Closed n (crossedWords (now (words .entry)) set 0)) n r) ⌝ }
+    requires { n ≤ max_records }
+    ensures { (result ≤ n) × (IsSet n (crossed_words words.now set 0) → Smallest (Closed n (crossed_words words.now set 0)) n result) }
 {
     let mut rows = [0u64; k2::ROWS_WORDS];
     rows::put_letters(words, set, 0, &mut rows);
@@ -99,8 +95,8 @@ fn first_loop(
     work: &mut [u64],
     list: &mut [u32],
 ) -> GenerationsAnswer
-    requires { ⌜ «record» ≤ maxRecords ⌝ }
-    ensures { λ r. ⌜ Looped register set «record» (length (now (work .entry))) (now (list .entry)) (now (list .exit)) r ⌝ }
+    requires { «record» ≤ max_records }
+    ensures { Looped register set «record» (length work.old) list.old list.new result }
 {
     let mut text = [0u8; TEXT_BYTES];
     let bytes = put_text(set, &mut text);
@@ -126,7 +122,7 @@ pub fn generations(
     work: &mut [u64],
     list: &mut [u32],
 ) -> GenerationsAnswer
-    ensures { λ r. ⌜ Generates register (now (labels .entry)) (length (now (work .entry))) (now (list .entry)) (now (list .exit)) r ⌝ }
+    ensures { Generates register labels.now (length work.old) list.old list.new result }
 {
     if any_above(labels) {
         return GenerationsAnswer::Refused(book::BAD_LABEL);

@@ -1,58 +1,58 @@
 -- Laws of a row that may have a column of another, word by word.
---   both-in        a column of both, in a word that is in the mask
---   both-out       none in words that are not in the mask
---   both-none      none in a word where the two have no bit in common
---   both-some      one in a word where they have
+--   both_in        a column of both, in a word that is in the mask
+--   both_out       none in words that are not in the mask
+--   both_none      none in a word where the two have no bit in common
+--   both_some      one in a word where they have
 -- Assumes nothing.
-use mathlib.Core.Path.{_≡_, sym, ap, ap₂, _∙_}
+use mathlib.Core.Path.{◌≡◌, sym, ap, ap₂, ◌∙◌}
 use mathlib.Core.Bool.{true, true≢false}
 use mathlib.Core.List.{List}
-use Prim.Native.Nat.{ℕ, _+_, _*_, _/_, _%_, _^_, _<_, min}
-use native.Mathlib.Nat.{lt-of-le-of-lt}
+use Prim.Native.Nat.{ℕ, ◌+◌, ◌*◌, ◌/◌, ◌%◌, ◌^◌, ◌<◌, min}
+use native.Mathlib.Nat.{lt_of_le_of_lt}
 use native.Mathlib.Omega.{arith}
-use lib.Bits.{bitAnd, and-le-l}
-use lib.Count.{trailingZeros}
-use lib.ListN.{getD}
-use Rattle·k2.specs.Bits.{digit, bitAt}
-use Rattle·k2.specs.DigitLaws.{digit-and, digit-none}
-use Rattle·bits.specs.BitSets.{both, Gap}
-use Rattle·grid·specs.specs.Grid.{rowOf}
-use Rattle·grid·specs.specs.Steps.{Meets}
-use Rattle·grid·proofs.proofs.RowLaws.{row-empty, row-in}
-use Rattle·grid·proofs.proofs.ScanLaws.{lowest-is}
-use Rattle·grid·proofs.proofs.ColumnLaws.{lowest-some}
+use lib.Bits.{bit_and, and_le_l}
+use lib.Count.{count_trailing_zeros}
+use lib.ListN.{get_or}
+use Rattle.k2.specs.Bits.{digit, bit_at}
+use Rattle.k2.specs.DigitLaws.{digit_and, digit_none}
+use Rattle.bits.specs.BitSets.{both, Gap}
+use Rattle.grid.specs.Grid.{row_of}
+use Rattle.grid.specs.Steps.{Meets}
+use Rattle.grid.proofs.RowLaws.{row_empty, row_in}
+use Rattle.grid.proofs.ScanLaws.{lowest_is}
+use Rattle.grid.proofs.ColumnLaws.{lowest_some}
 
 module _ (ws : List ℕ) (b m : ℕ) (rs : List ℕ) where
-  both-in : (c y : ℕ) → y / 64 ≡ c → digit m c ≡ 1 → both (rowOf ws b m) (bitAt rs) y ≡ digit (bitAnd (getD ws (b + c) 0) (getD rs c 0)) (y % 64)
-  unfolding both bitAt
-  both-in c y e d =
-      ap₂ min (row-in ws b m c y e d) (ap (λ (q : ℕ). digit (getD rs q 0) (y % 64)) e) ∙ sym (digit-and (getD ws (b + c) 0) (getD rs c 0) (y % 64))
+  both_in : (c y : ℕ) → y / 64 ≡ c → digit m c ≡ 1 → both (row_of ws b m) (bit_at rs) y ≡ digit (bit_and (get_or ws (b + c) 0) (get_or rs c 0)) (y % 64)
+  unfolding both bit_at
+  both_in c y e d =
+      ap₂ min (row_in ws b m c y e d) (ap (λ (q : ℕ). digit (get_or rs q 0) (y % 64)) e) ∙ sym (digit_and (get_or ws (b + c) 0) (get_or rs c 0) (y % 64))
 
-  pub both-out : (c k : ℕ) → Gap (digit m) c k → Gap (both (rowOf ws b m) (bitAt rs)) (c * 64) (k * 64)
+  pub both_out : (c k : ℕ) → Gap (digit m) c k → Gap (both (row_of ws b m) (bit_at rs)) (c * 64) (k * 64)
   unfolding both
-  both-out c k g y h l = rw (row-empty ws b m y (g (y / 64) (omega arith) (omega arith))) (omega arith)
+  both_out c k g y h l = rw (row_empty ws b m y (g (y / 64) (omega arith) (omega arith))) (omega arith)
 
-  pub both-none : (c : ℕ) → digit m c ≡ 1 → bitAnd (getD ws (b + c) 0) (getD rs c 0) ≡ 0 → Gap (both (rowOf ws b m) (bitAt rs)) (c * 64) (c * 64 + 64)
-  both-none c d e y h l = both-in c y (omega arith) d ∙ ap (λ (v : ℕ). digit v (y % 64)) e ∙ digit-none (y % 64)
+  pub both_none : (c : ℕ) → digit m c ≡ 1 → bit_and (get_or ws (b + c) 0) (get_or rs c 0) ≡ 0 → Gap (both (row_of ws b m) (bit_at rs)) (c * 64) (c * 64 + 64)
+  both_none c d e y h l = both_in c y (omega arith) d ∙ ap (λ (v : ℕ). digit v (y % 64)) e ∙ digit_none (y % 64)
 
-  pub both-some : (c end : ℕ) → digit m c ≡ 1 → getD ws (b + c) 0 < 2 ^ 64 → (bitAnd (getD ws (b + c) 0) (getD rs c 0) ≡ 0 → ⊥)
-      → Meets (both (rowOf ws b m) (bitAt rs)) end true
-  both-some c end d f n = record { found = λ _. (c * 64 + k, hit); none = λ e. absurd (true≢false e) }
+  pub both_some : (c end : ℕ) → digit m c ≡ 1 → get_or ws (b + c) 0 < 2 ^ 64 → (bit_and (get_or ws (b + c) 0) (get_or rs c 0) ≡ 0 → ⊥)
+      → Meets (both (row_of ws b m) (bit_at rs)) end true
+  both_some c end d f n = record { found = λ _. (c * 64 + k, hit); none = λ e. absurd (true≢false e) }
     where
       v : ℕ
-      v = bitAnd (getD ws (b + c) 0) (getD rs c 0)
+      v = bit_and (get_or ws (b + c) 0) (get_or rs c 0)
 
       k : ℕ
-      k = trailingZeros 64 v
+      k = count_trailing_zeros 64 v
 
       small : v < 2 ^ 64
-      small = lt-of-le-of-lt (and-le-l (getD ws (b + c) 0) (getD rs c 0)) f
+      small = lt_of_le_of_lt (and_le_l (get_or ws (b + c) 0) (get_or rs c 0)) f
 
       inside : k < 64
-      inside = lowest-some v k small n (lowest-is v small)
+      inside = lowest_some v k small n (lowest_is v small)
 
-      hit : both (rowOf ws b m) (bitAt rs) (c * 64 + k) ≡ 1
+      hit : both (row_of ws b m) (bit_at rs) (c * 64 + k) ≡ 1
       hit =
           let q : (c * 64 + k) / 64 ≡ c = omega (arith, inside) in
           let r : (c * 64 + k) % 64 ≡ k = omega (arith, inside) in
-          both-in c (c * 64 + k) q d ∙ ap (digit v) r ∙ lowest-is v small .hit inside
+          both_in c (c * 64 + k) q d ∙ ap (digit v) r ∙ (lowest_is v small).hit inside

@@ -1,20 +1,17 @@
 // Union, product and transposition leave their result in the first relation of the part. The second is the right operand, or scratch.
-use crate::row::merge;
-use crate::row::next;
-use crate::row::put;
-ghost use mathlib.Core.Path.{_≡_};
-ghost use Prim.Native.Nat.{ℕ, _+_, _*_, _≤_, _<_};
-ghost use lib.ListN.{length, getD};
-ghost use Rattle·book.specs.Causes.{maxRecords};
-ghost use Rattle·k2.specs.PairSets.{union, transpose, product, most};
-ghost use Rattle·grid·specs.specs.Grid.{Space, firstRows, secondRows, first, second};
-ghost use Rattle·grid·specs.specs.Steps.{linked, onlyRow, Merged, Replaced, Turned};
+ghost use Rattle.std.specs.Prelude.{◌≡◌, ℕ, ◌+◌, ◌*◌, ◌≤◌, ◌<◌, length, get_or};
+ghost use Rattle.book.specs.Causes.{max_records};
+ghost use Rattle.k2.specs.PairSets.{union, transpose, product, most};
+ghost use Rattle.grid.specs.Grid.{Space, first_rows, second_rows, first, second};
+ghost use Rattle.grid.specs.Steps.{linked, only_row, Merged, Replaced, Turned};
+
+use crate::row::{merge, next, put};
 
 // The second relation put into the first.
 pub fn unite(cells: &mut [u64], masks: &mut [u16], n: usize, w: usize)
-    requires { ⌜ Space n w (n + n) (length (now cells)) (length (now masks)) ⌝ }
-    ensures { λ _. ⌜ first n w (now (cells .exit)) (now (masks .exit))
-        ≡ union (first n w (now (cells .entry)) (now (masks .entry))) (second n w (now (cells .entry)) (now (masks .entry))) ⌝ }
+    requires { Space n w (n + n) (length cells.old) (length masks.old) }
+    ensures { first n w cells.new masks.new
+        ≡ union (first n w cells.old masks.old) (second n w cells.old masks.old) }
 {
     let unit = n * w;
     let mut x = 0;
@@ -29,9 +26,9 @@ pub fn unite(cells: &mut [u64], masks: &mut [u16], n: usize, w: usize)
 
 // Row x of the product of the first two relations, put into the row after them.
 fn product_row(cells: &mut [u64], masks: &mut [u16], n: usize, w: usize, x: usize)
-    requires { ⌜ Space n w (n + n + 1) (length (now cells)) (length (now masks)) × (x < n) ⌝ }
-    ensures { λ _. ⌜ Merged w (n + n) (n * w + n * w) (λ y. most n (linked n w (now (cells .entry)) (now (masks .entry)) x y))
-        (now (cells .entry)) (now (masks .entry)) (now (cells .exit)) (now (masks .exit)) ⌝ }
+    requires { Space n w (n + n + 1) (length cells.old) (length masks.old) × (x < n) }
+    ensures { Merged w (n + n) (n * w + n * w) (λ y. most n (linked n w cells.old masks.old x y))
+        cells.old masks.old cells.new masks.new }
 {
     let unit = n * w;
     let b = x * w;
@@ -46,9 +43,9 @@ fn product_row(cells: &mut [u64], masks: &mut [u16], n: usize, w: usize, x: usiz
 
 // Row x of the first relation, at place b, replaced by that of the product.
 fn compose_row(cells: &mut [u64], masks: &mut [u16], n: usize, w: usize, x: usize, b: usize)
-    requires { ⌜ Space n w (n + n + 1) (length (now cells)) (length (now masks)) × (x < n) × (b ≡ x * w) ⌝ }
-    ensures { λ _. ⌜ Replaced n w x b (λ y. most n (linked n w (now (cells .entry)) (now (masks .entry)) x y))
-        (now (cells .entry)) (now (masks .entry)) (now (cells .exit)) (now (masks .exit)) ⌝ }
+    requires { Space n w (n + n + 1) (length cells.old) (length masks.old) × (x < n) × (b ≡ x * w) }
+    ensures { Replaced n w x b (λ y. most n (linked n w cells.old masks.old x y))
+        cells.old masks.old cells.new masks.new }
 {
     masks[n + n] = 0;
     product_row(cells, masks, n, w, x);
@@ -61,9 +58,9 @@ fn compose_row(cells: &mut [u64], masks: &mut [u16], n: usize, w: usize, x: usiz
 // The product of the first two relations, left in the first. A row of the product depends on that row of the first alone. The row and the mask
 // after the two relations are used.
 pub fn compose(cells: &mut [u64], masks: &mut [u16], n: usize, w: usize)
-    requires { ⌜ Space n w (n + n + 1) (length (now cells)) (length (now masks)) ⌝ }
-    ensures { λ _. ⌜ first n w (now (cells .exit)) (now (masks .exit))
-        ≡ product n (first n w (now (cells .entry)) (now (masks .entry))) (second n w (now (cells .entry)) (now (masks .entry))) ⌝ }
+    requires { Space n w (n + n + 1) (length cells.old) (length masks.old) }
+    ensures { first n w cells.new masks.new
+        ≡ product n (first n w cells.old masks.old) (second n w cells.old masks.old) }
 {
     let mut x = 0;
     let mut b = 0;
@@ -79,9 +76,9 @@ pub fn compose(cells: &mut [u64], masks: &mut [u16], n: usize, w: usize)
 
 // The second relation made empty.
 fn start_second(masks: &mut [u16], n: usize)
-    requires { ⌜ (n ≤ maxRecords) × (n + n ≤ length (now masks)) ⌝ }
-    ensures { λ _. ⌜ ((k : ℕ) → k < n → getD (now (masks .exit)) k 0 ≡ getD (now (masks .entry)) k 0)
-        × ((k : ℕ) → k < n → getD (now (masks .exit)) (n + k) 0 ≡ 0) ⌝ }
+    requires { (n ≤ max_records) × (n + n ≤ length masks.old) }
+    ensures { ((k : ℕ) → k < n → get_or masks.new k 0 ≡ get_or masks.old k 0)
+        × ((k : ℕ) → k < n → get_or masks.new (n + k) 0 ≡ 0) }
 {
     let mut x = 0;
     while x < n {
@@ -92,9 +89,9 @@ fn start_second(masks: &mut [u16], n: usize)
 
 // The pairs of row x of the first relation put into the second, exchanged.
 fn turn_row(cells: &mut [u64], masks: &mut [u16], n: usize, w: usize, x: usize)
-    requires { ⌜ Space n w (n + n) (length (now cells)) (length (now masks)) × (x < n) ⌝ }
-    ensures { λ _. ⌜ Turned n w (onlyRow x n (firstRows w (now (cells .entry)) (now (masks .entry))))
-        (now (cells .entry)) (now (masks .entry)) (now (cells .exit)) (now (masks .exit)) ⌝ }
+    requires { Space n w (n + n) (length cells.old) (length masks.old) × (x < n) }
+    ensures { Turned n w (only_row x n (first_rows w cells.old masks.old))
+        cells.old masks.old cells.new masks.new }
 {
     let unit = n * w;
     let b = x * w;
@@ -108,9 +105,9 @@ fn turn_row(cells: &mut [u64], masks: &mut [u16], n: usize, w: usize, x: usize)
 
 // Row x of the first relation, at place b, replaced by that of the second.
 fn take_row(cells: &mut [u64], masks: &mut [u16], n: usize, w: usize, x: usize, b: usize)
-    requires { ⌜ Space n w (n + n) (length (now cells)) (length (now masks)) × (x < n) × (b ≡ x * w) ⌝ }
-    ensures { λ _. ⌜ Replaced n w x b (secondRows n w (now (cells .entry)) (now (masks .entry)) x)
-        (now (cells .entry)) (now (masks .entry)) (now (cells .exit)) (now (masks .exit)) ⌝ }
+    requires { Space n w (n + n) (length cells.old) (length masks.old) × (x < n) × (b ≡ x * w) }
+    ensures { Replaced n w x b (second_rows n w cells.old masks.old x)
+        cells.old masks.old cells.new masks.new }
 {
     masks[x] = 0;
     let source = masks[n + x];
@@ -120,8 +117,8 @@ fn take_row(cells: &mut [u64], masks: &mut [u16], n: usize, w: usize, x: usize, 
 
 // The second relation taken over into the first.
 fn take_second(cells: &mut [u64], masks: &mut [u16], n: usize, w: usize)
-    requires { ⌜ Space n w (n + n) (length (now cells)) (length (now masks)) ⌝ }
-    ensures { λ _. ⌜ first n w (now (cells .exit)) (now (masks .exit)) ≡ second n w (now (cells .entry)) (now (masks .entry)) ⌝ }
+    requires { Space n w (n + n) (length cells.old) (length masks.old) }
+    ensures { first n w cells.new masks.new ≡ second n w cells.old masks.old }
 {
     let mut x = 0;
     let mut b = 0;
@@ -134,8 +131,8 @@ fn take_second(cells: &mut [u64], masks: &mut [u16], n: usize, w: usize)
 
 // Each pair of the first relation exchanged. The rows and the masks of the second are used.
 pub fn transpose(cells: &mut [u64], masks: &mut [u16], n: usize, w: usize)
-    requires { ⌜ Space n w (n + n) (length (now cells)) (length (now masks)) ⌝ }
-    ensures { λ _. ⌜ first n w (now (cells .exit)) (now (masks .exit)) ≡ transpose (first n w (now (cells .entry)) (now (masks .entry))) ⌝ }
+    requires { Space n w (n + n) (length cells.old) (length masks.old) }
+    ensures { first n w cells.new masks.new ≡ transpose (first n w cells.old masks.old) }
 {
     start_second(masks, n);
     let mut x = 0;

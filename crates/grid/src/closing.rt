@@ -3,26 +3,21 @@
 // whole words.
 // There are three parts of 1,024 marks, a bit each. Mark x says that row x is closed, mark SEEN + x that the search in depth has seen it, and mark
 // 2 * SEEN + x that it is empty.
+ghost use Rattle.std.specs.Prelude.{◌≡◌, ◌⊎◌, true, ℕ, ◌+◌, ◌*◌, ◌/◌, ◌≤◌, ◌<◌, max, eqb, length, get_or};
+ghost use Rattle.book.specs.Basics.{pick};
+ghost use Rattle.book.specs.Causes.{max_records};
+ghost use Rattle.k2.specs.Sizes.{rows_words};
+ghost use Rattle.k2.specs.Bits.{digit, bit_at};
+ghost use Rattle.k2.specs.PairSets.{Cells, IsSet, closure};
+ghost use Rattle.bits.specs.BitSets.{put};
+ghost use Rattle.rows.specs.Rows.{flat};
+ghost use Rattle.rows.specs.Steps.{Masked};
+ghost use Rattle.grid.specs.Grid.{Space, row_of, first_rows, first};
+ghost use Rattle.grid.specs.Steps.{most_steps, stack_places, Clean, Merged, Fresh, empty_marks, Filled, Started, RowClosed, Onward};
+ghost use Rattle.grid.specs.Steps.{Looking, Marking, Passing, Stacked};
+
 use crate::row::merge;
-use crate::words::above;
-use crate::words::lowest;
-ghost use mathlib.Core.Path.{_≡_};
-ghost use mathlib.Core.Logic.{_⊎_};
-ghost use mathlib.Core.Bool.{true};
-ghost use Prim.Native.Nat.{ℕ, _+_, _*_, _/_, _≤_, _<_, max};
-ghost use lib.Dec.{eqb};
-ghost use lib.ListN.{length, getD};
-ghost use Rattle·book.specs.Basics.{pick};
-ghost use Rattle·book.specs.Causes.{maxRecords};
-ghost use Rattle·k2.specs.Sizes.{rowsWords};
-ghost use Rattle·k2.specs.Bits.{digit, bitAt};
-ghost use Rattle·k2.specs.PairSets.{Cells, IsSet, closure};
-ghost use Rattle·bits.specs.BitSets.{put};
-ghost use Rattle·rows.specs.Rows.{flat};
-ghost use Rattle·rows.specs.Steps.{Masked};
-ghost use Rattle·grid·specs.specs.Grid.{Space, rowOf, firstRows, first};
-ghost use Rattle·grid·specs.specs.Steps.{mostSteps, stackPlaces, Clean, Merged, Fresh, emptyMarks, Filled, Started, RowClosed, Onward};
-ghost use Rattle·grid·specs.specs.Steps.{Looking, Marking, Passing, Stacked};
+use crate::words::{above, lowest};
 
 // So many words a row has at most, and a part of the marks.
 const ROW: usize = 16;
@@ -38,8 +33,8 @@ const STACK: usize = 2050;
 
 // A column of a closed record in word c of a row, if one is left there; else the column found, if it is below n; else one that is left in the word.
 fn found_or(found: usize, n: usize, left: u64, best: u64, c: usize) -> usize
-    requires { ⌜ (c < 16) × ((k : ℕ) → digit best k ≡ 1 → digit left k ≡ 1) ⌝ }
-    ensures { λ r. ⌜ ((r ≡ found) × ((found < n) ⊎ (left ≡ 0))) ⊎ ((k : ℕ) × (k < 64) × (digit left k ≡ 1) × (r ≡ c * 64 + k)) ⌝ }
+    requires { (c < 16) × ((k : ℕ) → digit best k ≡ 1 → digit left k ≡ 1) }
+    ensures { ((result ≡ found) × ((found < n) ⊎ (left ≡ 0))) ⊎ ((k : ℕ) × (k < 64) × (digit left k ≡ 1) × (result ≡ c * 64 + k)) }
 {
     if best != 0 {
         return c * 64 + lowest(best);
@@ -64,8 +59,8 @@ fn fresh(
     seen: &[u64],
     closed: &[u64],
 ) -> usize
-    requires { ⌜ Looking n w x (now cells) (now seen) (now closed) ⌝ }
-    ensures { λ r. ⌜ Fresh n w (rowOf (now (cells .entry)) (x * w) mask) (bitAt (now (seen .entry))) r ⌝ }
+    requires { Looking n w x cells.now seen.now closed.now }
+    ensures { Fresh n w (row_of cells.now (x * w) mask) (bit_at seen.now) result }
 {
     let words = mask as u64;
     let b = x * w;
@@ -89,8 +84,8 @@ fn fresh(
 
 // The columns of the row at place b, with the mask, put into a set.
 fn add_row(cells: &[u64], mask: u16, w: usize, b: usize, set: &mut [u64])
-    requires { ⌜ (w ≤ 16) × (b + w ≤ length (now cells)) × (16 ≤ length (now set)) ⌝ }
-    ensures { λ _. ⌜ ((y : ℕ) → y < w * 64 → bitAt (now (set .exit)) y ≡ max (bitAt (now (set .entry)) y) (rowOf (now (cells .entry)) b mask y)) ⌝ }
+    requires { (w ≤ 16) × (b + w ≤ length cells.now) × (16 ≤ length set.old) }
+    ensures { (y : ℕ) → y < w * 64 → bit_at set.new y ≡ max (bit_at set.old y) (row_of cells.now b mask y) }
 {
     let words = mask as u64;
     let mut c = lowest(words);
@@ -102,9 +97,9 @@ fn add_row(cells: &[u64], mask: u16, w: usize, b: usize, set: &mut [u64])
 
 // Record z is seen, and, if its row, with the mask, is whole, all that it leads to.
 fn mark(cells: &[u64], mask: u16, w: usize, z: usize, whole: u64, seen: &mut [u64])
-    requires { ⌜ Marking w z (now cells) (now seen) ⌝ }
-    ensures { λ _. ⌜ ((y : ℕ) → y < w * 64 → bitAt (now (seen .exit)) y
-        ≡ max (put z 1 (bitAt (now (seen .entry))) y) (pick (eqb whole 1) (rowOf (now (cells .entry)) (z * w) mask y) 0)) ⌝ }
+    requires { Marking w z cells.now seen.old }
+    ensures { (y : ℕ) → y < w * 64 → bit_at seen.new y
+        ≡ max (put z 1 (bit_at seen.old) y) (pick (eqb whole 1) (row_of cells.now (z * w) mask y) 0) }
 {
     bits::set_bit(seen, z);
     if whole != 1 {
@@ -115,8 +110,8 @@ fn mark(cells: &[u64], mask: u16, w: usize, z: usize, whole: u64, seen: &mut [u6
 
 // Is the row at place b, with the mask, whole, and does it lead to x?
 fn leads_back(cells: &[u64], mask: u16, b: usize, x: usize, whole: u64) -> bool
-    requires { ⌜ (x < maxRecords) × (b + x / 64 < length (now cells)) ⌝ }
-    ensures { λ r. ⌜ (r ≡ true → (whole ≡ 1) × (rowOf (now (cells .entry)) b mask x ≡ 1)) ⌝ }
+    requires { (x < max_records) × (b + x / 64 < length cells.now) }
+    ensures { result ≡ true → (whole ≡ 1) × (row_of cells.now b mask x ≡ 1) }
 {
     if whole != 1 {
         return false;
@@ -130,9 +125,9 @@ fn leads_back(cells: &[u64], mask: u16, b: usize, x: usize, whole: u64) -> bool
 
 // Row z put into row x.
 fn lead_on(cells: &mut [u64], masks: &mut [u16], n: usize, w: usize, x: usize, z: usize)
-    requires { ⌜ Space n w n (length (now cells)) (length (now masks)) × (x < n) × (z < n) ⌝ }
-    ensures { λ _. ⌜ Merged w x (x * w) (firstRows w (now (cells .entry)) (now (masks .entry)) z)
-        (now (cells .entry)) (now (masks .entry)) (now (cells .exit)) (now (masks .exit)) ⌝ }
+    requires { Space n w n (length cells.old) (length masks.old) × (x < n) × (z < n) }
+    ensures { Merged w x (x * w) (first_rows w cells.old masks.old z)
+        cells.old masks.old cells.new masks.new }
 {
     if x == z {
         return;
@@ -143,8 +138,8 @@ fn lead_on(cells: &mut [u64], masks: &mut [u16], n: usize, w: usize, x: usize, z
 
 // The records that are marked as empty.
 fn empty_records(marks: &[u64]) -> [u64; ROW]
-    requires { ⌜ length (now marks) ≡ 48 ⌝ }
-    ensures { λ r. ⌜ ((u : ℕ) → u < maxRecords → bitAt r u ≡ bitAt (now (marks .entry)) (emptyMarks + u)) ⌝ }
+    requires { length marks.now ≡ 48 }
+    ensures { (u : ℕ) → u < max_records → bit_at result u ≡ bit_at marks.now (empty_marks + u) }
 {
     let mut records: [u64; ROW] = [0; ROW];
     let mut c = 0;
@@ -157,8 +152,8 @@ fn empty_records(marks: &[u64]) -> [u64; ROW]
 
 // Row x closed, if the rows of the records that are closed are. A closed row that leads back to x, and that x leads to, is that of x.
 fn close_row(cells: &mut [u64], masks: &mut [u16], n: usize, w: usize, x: usize, marks: &[u64])
-    requires { ⌜ Space n w n (length (now cells)) (length (now masks)) × (x < n) × (length (now marks) ≡ 48) ⌝ }
-    ensures { λ _. ⌜ RowClosed n w x (bitAt (now (marks .entry))) (now (cells .entry)) (now (masks .entry)) (now (cells .exit)) (now (masks .exit)) ⌝ }
+    requires { Space n w n (length cells.old) (length masks.old) × (x < n) × (length marks.now ≡ 48) }
+    ensures { RowClosed n w x (bit_at marks.now) cells.old masks.old cells.new masks.new }
 {
     let mut seen = empty_records(marks);
     let mut z = fresh(cells, masks[x], n, w, x, &seen, marks);
@@ -175,9 +170,9 @@ fn close_row(cells: &mut [u64], masks: &mut [u16], n: usize, w: usize, x: usize,
 
 // Row x closed, unless it is.
 fn close_once(cells: &mut [u64], masks: &mut [u16], n: usize, w: usize, x: usize, marks: &mut [u64])
-    requires { ⌜ Space n w n (length (now cells)) (length (now masks)) × (length (now marks) ≡ 48) ⌝ }
-    ensures { λ _. ⌜ Onward n w (now (marks .entry)) (now (cells .entry)) (now (masks .entry)) (now (marks .exit)) (now (cells .exit)) (now (masks .exit))
-        × (x < n → bitAt (now (marks .exit)) x ≡ 1) ⌝ }
+    requires { Space n w n (length cells.old) (length masks.old) × (length marks.old ≡ 48) }
+    ensures { Onward n w marks.old cells.old masks.old marks.new cells.new masks.new
+        × (x < n → bit_at marks.new x ≡ 1) }
 {
     if n <= x {
         return;
@@ -191,8 +186,8 @@ fn close_once(cells: &mut [u64], masks: &mut [u16], n: usize, w: usize, x: usize
 
 // A column of row x, at place b with the mask, whose record is not marked as seen; n or more if there is none.
 fn unseen(cells: &[u64], mask: u16, n: usize, w: usize, b: usize, marks: &[u64]) -> usize
-    requires { ⌜ Passing n w b (now cells) (now marks) ⌝ }
-    ensures { λ r. ⌜ r < mostSteps ⌝ }
+    requires { Passing n w b cells.now marks.now }
+    ensures { result < most_steps }
 {
     let words = mask as u64;
     let mut c = lowest(words);
@@ -215,9 +210,9 @@ fn deeper(
     x: usize,
     marks: &mut [u64],
 ) -> usize
-    requires { ⌜ Space n w n (length (now cells)) (length (now masks)) × (length (now marks) ≡ 48) ⌝ }
-    ensures { λ r. ⌜ (r ≤ n) × Onward n w (now (marks .entry)) (now (cells .entry))
-        (now (masks .entry)) (now (marks .exit)) (now (cells .exit)) (now (masks .exit)) ⌝ }
+    requires { Space n w n (length cells.old) (length masks.old) × (length marks.old ≡ 48) }
+    ensures { (result ≤ n) × Onward n w marks.old cells.old
+        masks.old marks.new cells.new masks.new }
 {
     if n <= x {
         return n;
@@ -233,8 +228,8 @@ fn deeper(
 
 // The depth after a step that found z, or, at n, found none.
 fn depth_after(z: usize, n: usize, depth: usize) -> usize
-    requires { ⌜ depth < stackPlaces ⌝ }
-    ensures { λ r. ⌜ r ≤ depth + 1 ⌝ }
+    requires { depth < stack_places }
+    ensures { result ≤ depth + 1 }
 {
     if z < n {
         return depth + 1;
@@ -255,9 +250,9 @@ fn advance(
     stack: &mut [u16],
     depth: usize,
 ) -> usize
-    requires { ⌜ Stacked n w (now cells) (now masks) (now marks) (now stack) × (0 < depth) × (depth < stackPlaces) ⌝ }
-    ensures { λ r. ⌜ (r ≤ depth + 1) × Onward n w (now (marks .entry)) (now (cells .entry))
-        (now (masks .entry)) (now (marks .exit)) (now (cells .exit)) (now (masks .exit)) ⌝ }
+    requires { Stacked n w cells.old masks.old marks.old stack.old × (0 < depth) × (depth < stack_places) }
+    ensures { (result ≤ depth + 1) × Onward n w marks.old cells.old
+        masks.old marks.new cells.new masks.new }
 {
     let x = stack[depth - 1] as usize;
     let z = deeper(cells, masks, n, w, x, marks);
@@ -274,9 +269,9 @@ fn search_on(
     marks: &mut [u64],
     stack: &mut [u16],
 )
-    requires { ⌜ Space n w n (length (now cells)) (length (now masks)) × (length (now marks) ≡ 48)
-        × (length (now stack) ≡ stackPlaces) ⌝ }
-    ensures { λ _. ⌜ Onward n w (now (marks .entry)) (now (cells .entry)) (now (masks .entry)) (now (marks .exit)) (now (cells .exit)) (now (masks .exit)) ⌝ }
+    requires { Space n w n (length cells.old) (length masks.old) × (length marks.old ≡ 48)
+        × (length stack.old ≡ stack_places) }
+    ensures { Onward n w marks.old cells.old masks.old marks.new cells.new masks.new }
 {
     let mut depth = 1;
     let mut step: usize = 0;
@@ -300,8 +295,8 @@ fn close_from(
     marks: &mut [u64],
     stack: &mut [u16],
 )
-    requires { ⌜ Stacked n w (now cells) (now masks) (now marks) (now stack) × (x < n) ⌝ }
-    ensures { λ _. ⌜ Onward n w (now (marks .entry)) (now (cells .entry)) (now (masks .entry)) (now (marks .exit)) (now (cells .exit)) (now (masks .exit)) ⌝ }
+    requires { Stacked n w cells.old masks.old marks.old stack.old × (x < n) }
+    ensures { Onward n w marks.old cells.old masks.old marks.new cells.new masks.new }
 {
     if bits::bit(marks, SEEN + x) == 1 {
         return;
@@ -321,9 +316,9 @@ fn close_record(
     marks: &mut [u64],
     stack: &mut [u16],
 )
-    requires { ⌜ Stacked n w (now cells) (now masks) (now marks) (now stack) × (x < n) ⌝ }
-    ensures { λ _. ⌜ Onward n w (now (marks .entry)) (now (cells .entry)) (now (masks .entry)) (now (marks .exit)) (now (cells .exit)) (now (masks .exit))
-        × (bitAt (now (marks .exit)) x ≡ 1) ⌝ }
+    requires { Stacked n w cells.old masks.old marks.old stack.old × (x < n) }
+    ensures { Onward n w marks.old cells.old masks.old marks.new cells.new masks.new
+        × (bit_at marks.new x ≡ 1) }
 {
     close_from(cells, masks, n, w, x, marks, stack);
     close_once(cells, masks, n, w, x, marks);
@@ -331,8 +326,8 @@ fn close_record(
 
 // The records below n whose rows are not empty.
 fn occupied(masks: &[u16], n: usize) -> [u64; ROW]
-    requires { ⌜ (n ≤ maxRecords) × (n ≤ length (now masks)) ⌝ }
-    ensures { λ r. ⌜ Filled n (now (masks .entry)) (bitAt r) ⌝ }
+    requires { (n ≤ max_records) × (n ≤ length masks.now) }
+    ensures { Filled n masks.now (bit_at result) }
 {
     let mut records: [u64; ROW] = [0; ROW];
     let mut x = 0;
@@ -347,8 +342,8 @@ fn occupied(masks: &[u16], n: usize) -> [u64; ROW]
 
 // The marks to begin with: no row is closed, and of the records that are not filled each counts as seen, and as empty.
 fn start_marks(filled: &[u64]) -> [u64; MARK_WORDS]
-    requires { ⌜ length (now filled) ≡ 16 ⌝ }
-    ensures { λ r. ⌜ Started maxRecords (bitAt (now (filled .entry))) (bitAt r) ⌝ }
+    requires { length filled.now ≡ 16 }
+    ensures { Started max_records (bit_at filled.now) (bit_at result) }
 {
     let mut marks: [u64; MARK_WORDS] = [0; MARK_WORDS];
     let mut c = 0;
@@ -363,9 +358,9 @@ fn start_marks(filled: &[u64]) -> [u64; MARK_WORDS]
 
 // One or more steps of the first relation. Clean words stay so.
 fn close_all(cells: &mut [u64], masks: &mut [u16], n: usize, w: usize)
-    requires { ⌜ Space n w n (length (now cells)) (length (now masks)) ⌝ }
-    ensures { λ _. ⌜ (first n w (now (cells .exit)) (now (masks .exit)) ≡ closure n (first n w (now (cells .entry)) (now (masks .entry))))
-        × (Clean n w (now (cells .entry)) (now (masks .entry)) → Clean n w (now (cells .exit)) (now (masks .exit))) ⌝ }
+    requires { Space n w n (length cells.old) (length masks.old) }
+    ensures { (first n w cells.new masks.new ≡ closure n (first n w cells.old masks.old))
+        × (Clean n w cells.old masks.old → Clean n w cells.new masks.new) }
 {
     let filled = occupied(masks, n);
     let mut marks = start_marks(&filled);
@@ -379,16 +374,16 @@ fn close_all(cells: &mut [u64], masks: &mut [u16], n: usize, w: usize)
 
 // One or more steps of the first relation.
 pub fn close(cells: &mut [u64], masks: &mut [u16], n: usize, w: usize)
-    requires { ⌜ Space n w n (length (now cells)) (length (now masks)) ⌝ }
-    ensures { λ _. ⌜ first n w (now (cells .exit)) (now (masks .exit)) ≡ closure n (first n w (now (cells .entry)) (now (masks .entry))) ⌝ }
+    requires { Space n w n (length cells.old) (length masks.old) }
+    ensures { first n w cells.new masks.new ≡ closure n (first n w cells.old masks.old) }
 {
     close_all(cells, masks, n, w);
 }
 
 // The masks of rows of 1,024 bits.
 fn mask_rows(rows: &[u64], n: usize, masks: &mut [u16])
-    requires { ⌜ (n ≤ maxRecords) × (length (now rows) ≡ rowsWords) × (n ≤ length (now masks)) ⌝ }
-    ensures { λ _. ⌜ ((x : ℕ) → x < n → Masked (bitAt (now (rows .entry))) x (getD (now (masks .exit)) x 0)) ⌝ }
+    requires { (n ≤ max_records) × (length rows.now ≡ rows_words) × (n ≤ length masks.old) }
+    ensures { (x : ℕ) → x < n → Masked (bit_at rows.now) x (get_or masks.new x 0) }
 {
     let mut row = 0;
     while row < n {
@@ -399,8 +394,8 @@ fn mask_rows(rows: &[u64], n: usize, masks: &mut [u16])
 
 // One or more steps of rows of 1,024 bits, in place.
 pub fn close_rows(rows: &mut [u64], n: usize)
-    requires { ⌜ (n ≤ maxRecords) × (length (now rows) ≡ rowsWords) ⌝ }
-    ensures { λ _. ⌜ ((x : Cells) → IsSet n x → bitAt (now (rows .entry)) ≡ flat x → bitAt (now (rows .exit)) ≡ flat (closure n x)) ⌝ }
+    requires { (n ≤ max_records) × (length rows.old ≡ rows_words) }
+    ensures { (x : Cells) → IsSet n x → bit_at rows.old ≡ flat x → bit_at rows.new ≡ flat (closure n x) }
 {
     let mut masks: [u16; book::MAX_RECORDS] = [0; book::MAX_RECORDS];
     mask_rows(rows, n, &mut masks);

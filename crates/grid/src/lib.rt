@@ -4,6 +4,8 @@
 //
 // words.rt has the bits of one word, row.rt one row, putting.rt pairs put into a relation, algebra.rt union, product and transposition, closing.rt the
 // closure, listing.rt the list, counting.rt how many pairs there are, spreading.rt the relation as rows of 1,024 bits.
+#![tactic(auto)]
+
 mod algebra;
 mod closing;
 mod counting;
@@ -13,16 +15,11 @@ mod row;
 mod spreading;
 mod words;
 
-pub use algebra::compose;
-pub use algebra::transpose;
-pub use algebra::unite;
-pub use closing::close;
-pub use closing::close_rows;
+pub use algebra::{compose, transpose, unite};
+pub use closing::{close, close_rows};
 pub use counting::count_pairs;
 pub use listing::list;
-pub use putting::put_diagonal;
-pub use putting::put_letters;
-pub use putting::start;
+pub use putting::{put_diagonal, put_letters, start};
 pub use row::meets;
 pub use spreading::spread;
 

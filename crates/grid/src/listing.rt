@@ -1,23 +1,19 @@
 // The pairs of the first relation of a part are listed here, row by row and word by word.
+ghost use Rattle.std.specs.Prelude.{◌≡◌, ◌++◌, ◌+◌, ◌*◌, ◌≤◌, ◌<◌, ◌^◌, length, take, drop};
+ghost use Rattle.book.specs.Causes.{max_records};
+ghost use Rattle.k2.specs.Bits.{digit};
+ghost use Rattle.k2.specs.PairSets.{listed};
+ghost use Rattle.grid.specs.Grid.{Space, row_of, first};
+ghost use Rattle.answers.specs.Listing.{Grown};
+ghost use Rattle.grid.specs.Steps.{cut_row, columns};
+
 use crate::PAIR_UNIT;
-use crate::words::above;
-use crate::words::cut;
-use crate::words::lowest;
-ghost use mathlib.Core.Path.{_≡_};
-ghost use mathlib.Core.List.{_++_};
-ghost use Prim.Native.Nat.{_+_, _*_, _≤_, _<_, _^_};
-ghost use lib.ListN.{length, take, drop};
-ghost use Rattle·book.specs.Causes.{maxRecords};
-ghost use Rattle·k2.specs.Bits.{digit};
-ghost use Rattle·k2.specs.PairSets.{listed};
-ghost use Rattle·grid·specs.specs.Grid.{Space, rowOf, first};
-ghost use Rattle·answers.specs.Listing.{Grown};
-ghost use Rattle·grid·specs.specs.Steps.{cutRow, columns};
+use crate::words::{above, cut, lowest};
 
 // The bits of a word, each as `at` + its place, written from place t on. The place after them.
 fn list_word(word: u64, at: usize, out: &mut [u32], t: usize) -> usize
-    requires { ⌜ (at + 64 < 2 ^ 32) × (t ≤ 2 * (maxRecords * maxRecords)) ⌝ }
-    ensures { λ r. ⌜ (r ≤ t + 64) × Grown t r (columns (digit word) at 64) (now (out .entry)) (now (out .exit)) ⌝ }
+    requires { (at + 64 < 2 ^ 32) × (t ≤ 2 * (max_records * max_records)) }
+    ensures { (result ≤ t + 64) × Grown t result (columns (digit word) at 64) out.old out.new }
 {
     let mut s = t;
     let mut p = at;
@@ -43,9 +39,9 @@ fn list_row(
     out: &mut [u32],
     t: usize,
 ) -> usize
-    requires { ⌜ Space n w n (length (now cells)) n × (x < n) × (t ≤ maxRecords * maxRecords) ⌝ }
-    ensures { λ r. ⌜ (r ≤ t + maxRecords)
-        × Grown t r (columns (cutRow n (rowOf (now (cells .entry)) (x * w) mask)) (x * maxRecords) n) (now (out .entry)) (now (out .exit)) ⌝ }
+    requires { Space n w n (length cells.now) n × (x < n) × (t ≤ max_records * max_records) }
+    ensures { (result ≤ t + max_records)
+        × Grown t result (columns (cut_row n (row_of cells.now (x * w) mask)) (x * max_records) n) out.old out.new }
 {
     let words = mask as u64;
     let b = x * w;
@@ -61,10 +57,10 @@ fn list_row(
 
 // How many pairs the first relation has; their words, ascending, are written to the list as far as it takes them, and the words past them are left.
 pub fn list(cells: &[u64], masks: &[u16], n: usize, w: usize, out: &mut [u32]) -> usize
-    requires { ⌜ Space n w n (length (now cells)) (length (now masks)) ⌝ }
-    ensures { λ r. ⌜ (r ≡ length (listed n (first n w (now (cells .entry)) (now (masks .entry)))))
-        × (now (out .exit) ≡ take (length (now (out .entry))) (listed n (first n w (now (cells .entry)) (now (masks .entry))))
-        ++ drop (length (listed n (first n w (now (cells .entry)) (now (masks .entry))))) (now (out .entry))) ⌝ }
+    requires { Space n w n (length cells.now) (length masks.now) }
+    ensures { (result ≡ length (listed n (first n w cells.now masks.now)))
+        × (out.new ≡ take (length out.old) (listed n (first n w cells.now masks.now))
+        ++ drop (length (listed n (first n w cells.now masks.now))) out.old) }
 {
     let mut t = 0;
     let mut x = 0;

@@ -1,20 +1,18 @@
 // Pairs are put into the first relation of a part here: those of links, by their labels, and each record in use joined to itself.
+ghost use Rattle.std.specs.Prelude.{◌≡◌, List, [], ◌∷◌, ℕ, ◌≤◌, length};
+ghost use Rattle.k2.specs.Bits.{bit_at};
+ghost use Rattle.k2.specs.PairSets.{union, diagonal};
+ghost use Rattle.rows.specs.RowSets.{no_pairs, crossed_words};
+ghost use Rattle.grid.specs.Grid.{Space, within, first};
+ghost use Rattle.grid.specs.Steps.{one_pair};
+
 use crate::PAIR_UNIT;
 use crate::row::put;
-ghost use mathlib.Core.Path.{_≡_};
-ghost use mathlib.Core.List.{List, [], _∷_};
-ghost use Prim.Native.Nat.{ℕ, _≤_};
-ghost use lib.ListN.{length};
-ghost use Rattle·k2.specs.Bits.{bitAt};
-ghost use Rattle·k2.specs.PairSets.{union, diagonal};
-ghost use Rattle·rows.specs.RowSets.{noPairs, crossedWords};
-ghost use Rattle·grid·specs.specs.Grid.{Space, within, first};
-ghost use Rattle·grid·specs.specs.Steps.{onePair};
 
 // The first relation made empty.
 pub fn start(masks: &mut [u16], n: usize)
-    requires { ⌜ n ≤ length (now masks) ⌝ }
-    ensures { λ _. ⌜ ((w : ℕ) (ws : List ℕ) → first n w ws (now (masks .exit)) ≡ noPairs) ⌝ }
+    requires { n ≤ length masks.old }
+    ensures { (w : ℕ) (ws : List ℕ) → first n w ws masks.new ≡ no_pairs }
 {
     let mut x = 0;
     while x < n {
@@ -25,9 +23,9 @@ pub fn start(masks: &mut [u16], n: usize)
 
 // The pair (x, y) put into the first relation, if both records are below n.
 fn put_pair(cells: &mut [u64], masks: &mut [u16], n: usize, w: usize, x: usize, y: usize)
-    requires { ⌜ Space n w n (length (now cells)) (length (now masks)) ⌝ }
-    ensures { λ _. ⌜ first n w (now (cells .exit)) (now (masks .exit))
-        ≡ union (first n w (now (cells .entry)) (now (masks .entry))) (within n (onePair x y)) ⌝ }
+    requires { Space n w n (length cells.old) (length masks.old) }
+    ensures { first n w cells.new masks.new
+        ≡ union (first n w cells.old masks.old) (within n (one_pair x y)) }
 {
     if n <= x {
         return;
@@ -40,9 +38,9 @@ fn put_pair(cells: &mut [u64], masks: &mut [u16], n: usize, w: usize, x: usize, 
 
 // Each record below n that is in use joined to itself.
 pub fn put_diagonal(used: &[u64], cells: &mut [u64], masks: &mut [u16], n: usize, w: usize)
-    requires { ⌜ Space n w n (length (now cells)) (length (now masks)) ⌝ }
-    ensures { λ _. ⌜ first n w (now (cells .exit)) (now (masks .exit))
-        ≡ union (first n w (now (cells .entry)) (now (masks .entry))) (within n (diagonal (bitAt (now (used .entry))))) ⌝ }
+    requires { Space n w n (length cells.old) (length masks.old) }
+    ensures { first n w cells.new masks.new
+        ≡ union (first n w cells.old masks.old) (within n (diagonal (bit_at used.now))) }
 {
     let mut x = 0;
     while x < n {
@@ -63,9 +61,9 @@ fn put_word(
     n: usize,
     w: usize,
 )
-    requires { ⌜ Space n w n (length (now cells)) (length (now masks)) ⌝ }
-    ensures { λ _. ⌜ first n w (now (cells .exit)) (now (masks .exit))
-        ≡ union (first n w (now (cells .entry)) (now (masks .entry))) (within n (crossedWords (word ∷ []) forward against)) ⌝ }
+    requires { Space n w n (length cells.old) (length masks.old) }
+    ensures { first n w cells.new masks.new
+        ≡ union (first n w cells.old masks.old) (within n (crossed_words (word ∷ []) forward against)) }
 {
     let label = links::label_of(word);
     let p = links::pair_of(word) as usize;
@@ -88,9 +86,9 @@ pub fn put_letters(
     n: usize,
     w: usize,
 )
-    requires { ⌜ Space n w n (length (now cells)) (length (now masks)) ⌝ }
-    ensures { λ _. ⌜ first n w (now (cells .exit)) (now (masks .exit))
-        ≡ union (first n w (now (cells .entry)) (now (masks .entry))) (within n (crossedWords (now (words .entry)) forward against)) ⌝ }
+    requires { Space n w n (length cells.old) (length masks.old) }
+    ensures { first n w cells.new masks.new
+        ≡ union (first n w cells.old masks.old) (within n (crossed_words words.now forward against)) }
 {
     let mut i = 0;
     while i < words.len() {

@@ -1,21 +1,18 @@
 // These functions work on one row: they put a word or another row into it, find its next column, and find a column that another row has too. Word c of a row
 // stands at its place + c.
-use crate::words::above;
-use crate::words::join;
-use crate::words::lowest;
-ghost use mathlib.Core.Logic.{_⊎_};
-ghost use Prim.Native.Nat.{ℕ, _+_, _*_, _≤_, _<_};
-ghost use lib.ListN.{length};
-ghost use Rattle·k2.specs.Bits.{bitAt};
-ghost use Rattle·bits.specs.BitSets.{both};
-ghost use Rattle·grid·specs.specs.Grid.{rowOf};
-ghost use Rattle·grid·specs.specs.Steps.{Lowest, wordAt, Merged, Meets, Merging};
+ghost use Rattle.std.specs.Prelude.{◌⊎◌, ℕ, ◌+◌, ◌*◌, ◌≤◌, ◌<◌, length};
+ghost use Rattle.k2.specs.Bits.{bit_at};
+ghost use Rattle.bits.specs.BitSets.{both};
+ghost use Rattle.grid.specs.Grid.{row_of};
+ghost use Rattle.grid.specs.Steps.{Lowest, word_at, Merged, Meets, Merging};
+
+use crate::words::{above, join, lowest};
 
 // A word put into word c of the row at place b, whose mask is number t.
 pub fn put(cells: &mut [u64], masks: &mut [u16], t: usize, b: usize, c: usize, v: u64)
-    requires { ⌜ (t < length (now masks)) × (c < 16) × (b + c < length (now cells)) ⌝ }
-    ensures { λ _. ⌜ ((w : ℕ) → c < w
-        → Merged w t b (wordAt c v) (now (cells .entry)) (now (masks .entry)) (now (cells .exit)) (now (masks .exit))) ⌝ }
+    requires { (t < length masks.old) × (c < 16) × (b + c < length cells.old) }
+    ensures { (w : ℕ) → c < w
+        → Merged w t b (word_at c v) cells.old masks.old cells.new masks.new }
 {
     let mask = masks[t];
     let old = cells[b + c];
@@ -33,9 +30,9 @@ pub fn merge(
     source: u16,
     f: usize,
 )
-    requires { ⌜ Merging w t b f (now cells) (now masks) ⌝ }
-    ensures { λ _. ⌜ ((b + w ≤ f) ⊎ (f + w ≤ b)
-        → Merged w t b (rowOf (now (cells .entry)) f source) (now (cells .entry)) (now (masks .entry)) (now (cells .exit)) (now (masks .exit))) ⌝ }
+    requires { Merging w t b f cells.old masks.old }
+    ensures { (b + w ≤ f) ⊎ (f + w ≤ b)
+        → Merged w t b (row_of cells.old f source) cells.old masks.old cells.new masks.new }
 {
     let mask = masks[t];
     let words = source as u64;
@@ -51,8 +48,8 @@ pub fn merge(
 
 // The first column of a row in its words above c; w * 64 if there is none.
 pub fn later(cells: &[u64], mask: u16, b: usize, w: usize, c: usize) -> usize
-    requires { ⌜ (w ≤ 16) × (b + w ≤ length (now cells)) × (c < w) ⌝ }
-    ensures { λ r. ⌜ (r ≤ w * 64) × Lowest (rowOf (now (cells .entry)) b mask) (c * 64 + 64) (w * 64) r ⌝ }
+    requires { (w ≤ 16) × (b + w ≤ length cells.now) × (c < w) }
+    ensures { (result ≤ w * 64) × Lowest (row_of cells.now b mask) (c * 64 + 64) (w * 64) result }
 {
     let words = mask as u64;
     let mut k = above(words, c);
@@ -68,8 +65,8 @@ pub fn later(cells: &[u64], mask: u16, b: usize, w: usize, c: usize) -> usize
 
 // The first column of a row from y on; w * 64 if there is none.
 pub fn next(cells: &[u64], mask: u16, b: usize, w: usize, y: usize) -> usize
-    requires { ⌜ (w ≤ 16) × (b + w ≤ length (now cells)) × (y ≤ w * 64) ⌝ }
-    ensures { λ r. ⌜ (r ≤ w * 64) × Lowest (rowOf (now (cells .entry)) b mask) y (w * 64) r ⌝ }
+    requires { (w ≤ 16) × (b + w ≤ length cells.now) × (y ≤ w * 64) }
+    ensures { (result ≤ w * 64) × Lowest (row_of cells.now b mask) y (w * 64) result }
 {
     let c = y / 64;
     if w <= c {
@@ -86,8 +83,8 @@ pub fn next(cells: &[u64], mask: u16, b: usize, w: usize, y: usize) -> usize
 
 // Whether some column of a row is in another, whose words are all in use.
 pub fn meets(cells: &[u64], mask: u16, b: usize, w: usize, row: &[u64]) -> bool
-    requires { ⌜ (w ≤ 16) × (b + w ≤ length (now cells)) × (w ≤ length (now row)) ⌝ }
-    ensures { λ t. ⌜ Meets (both (rowOf (now (cells .entry)) b mask) (bitAt (now (row .entry)))) (w * 64) t ⌝ }
+    requires { (w ≤ 16) × (b + w ≤ length cells.now) × (w ≤ length row.now) }
+    ensures { Meets (both (row_of cells.now b mask) (bit_at row.now)) (w * 64) result }
 {
     let words = mask as u64;
     let mut c = lowest(words);

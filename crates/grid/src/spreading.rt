@@ -1,20 +1,17 @@
 // The first relation of a part is spread here to rows of 1,024 bits, as crate `rows` has them.
-use crate::words::above;
-use crate::words::cut;
-use crate::words::lowest;
-ghost use mathlib.Core.Path.{_≡_};
-ghost use Prim.Native.Nat.{_*_};
-ghost use lib.ListN.{length};
-ghost use Rattle·k2.specs.Sizes.{rowsWords};
-ghost use Rattle·k2.specs.Bits.{bitAt};
-ghost use Rattle·rows.specs.Rows.{flat};
-ghost use Rattle·grid·specs.specs.Grid.{Space, rowOf, first};
-ghost use Rattle·grid·specs.specs.Steps.{cutRow, Spread, Spreading};
+ghost use Rattle.std.specs.Prelude.{◌≡◌, ◌*◌, length};
+ghost use Rattle.k2.specs.Sizes.{rows_words};
+ghost use Rattle.k2.specs.Bits.{bit_at};
+ghost use Rattle.rows.specs.Rows.{flat};
+ghost use Rattle.grid.specs.Grid.{Space, row_of, first};
+ghost use Rattle.grid.specs.Steps.{cut_row, Spread, Spreading};
+
+use crate::words::{above, cut, lowest};
 
 // Row x with the mask, in the columns below n, written as row x of the rows, which is empty.
 fn spread_row(cells: &[u64], mask: u16, n: usize, w: usize, x: usize, rows: &mut [u64])
-    requires { ⌜ Spreading n w x (now cells) (now rows) ⌝ }
-    ensures { λ _. ⌜ Spread x (cutRow n (rowOf (now (cells .entry)) (x * w) mask)) 16 (now (rows .entry)) (now (rows .exit)) ⌝ }
+    requires { Spreading n w x cells.now rows.old }
+    ensures { Spread x (cut_row n (row_of cells.now (x * w) mask)) 16 rows.old rows.new }
 {
     let words = mask as u64;
     let b = x * w;
@@ -28,8 +25,8 @@ fn spread_row(cells: &[u64], mask: u16, n: usize, w: usize, x: usize, rows: &mut
 
 // The first relation as 1,024 rows of 16 words.
 pub fn spread(cells: &[u64], masks: &[u16], n: usize, w: usize, rows: &mut [u64])
-    requires { ⌜ Space n w n (length (now cells)) (length (now masks)) × (length (now rows) ≡ rowsWords) ⌝ }
-    ensures { λ _. ⌜ bitAt (now (rows .exit)) ≡ flat (first n w (now (cells .entry)) (now (masks .entry))) ⌝ }
+    requires { Space n w n (length cells.now) (length masks.now) × (length rows.old ≡ rows_words) }
+    ensures { bit_at rows.new ≡ flat (first n w cells.now masks.now) }
 {
     rows::clear(rows);
     let mut x = 0;

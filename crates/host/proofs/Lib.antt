@@ -1,3 +1,13 @@
+pub mod HostLaws
+pub mod DemandLaws
+pub mod PreviewLaws
+pub mod GenerationsLaws
+pub mod OffsetsLaws
+pub mod PageHostLaws
+pub mod MadeLaws
+pub mod EndsQuestionLaws
+pub mod DraftLaws
+pub mod ReadingLaws
 pub mod CarryLaws
 pub mod DraftCarryLaws
 pub mod PreviewCarryLaws

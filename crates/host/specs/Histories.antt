@@ -9,35 +9,31 @@
 --   WordsMade n cs ws vs ks ls
 --                   the exported calls cs, refused ones too, made the words vs, on words that asking for a fresh register of n records left, lent the words ws
 -- Assumes nothing: these are definitions.
-use mathlib.Core.Path.{_≡_}
-use mathlib.Core.List.{List, [], _∷_, _++_}
-use mathlib.Core.Bool.{false}
-use Prim.Native.Nat.{ℕ, _*_, _≤_, _<_}
-use lib.ListN.{length, drop, replicate}
-use Rattle·book.specs.Basics.{over}
-use Rattle·book.specs.Book.{Book, Call, close, given}
-use Rattle·register.specs.History.{Lent, isClose}
-use Rattle·register.specs.Words.{Keeps, Edits}
-use Rattle·register.specs.declared.Register.{Register}
-use Rattle·register.specs.Drafts.{draftCalls}
-use Rattle·host·specs.specs.Host.{KeepsBook, pastCounts, Freshens}
-use Rattle·host·specs.specs.Drafts.{Applies}
+use Rattle.std.specs.Prelude.{◌≡◌, List, [], ◌∷◌, ◌++◌, false, ℕ, ◌*◌, ◌≤◌, ◌<◌, length, drop, replicate}
+use Rattle.book.specs.Basics.{over}
+use Rattle.book.specs.Book.{Book, Call, close, given}
+use Rattle.register.specs.History.{Lent, is_close}
+use Rattle.register.specs.Words.{Keeps, Edits}
+use Rattle.register.specs.declared.Register.{Register}
+use Rattle.register.specs.Drafts.{draft_calls}
+use Rattle.host.specs.Host.{KeepsBook, past_counts, Freshens}
+use Rattle.host.specs.Drafts.{Applies}
 
 pub record Renumbers (state numbers : Lent) (k : ℕ) : Type 0 where
-  pub edits : Edits (close (length (numbers .before))) (state .before) (state .after) k
-  pub refused : (k ≡ 0 → ⊥) → numbers .after ≡ numbers .before
-  pub past : (r : Register) → Keeps (state .before) r → drop (r .n) (numbers .after) ≡ drop (r .n) (numbers .before)
-  pub given : (b : Book) → KeepsBook (state .before) b → numbers .after ≡ over (given b (close (length (numbers .before)))) (numbers .before)
+  pub edits : Edits (close (length numbers.before)) state.before state.after k
+  pub refused : (k ≡ 0 → ⊥) → numbers.after ≡ numbers.before
+  pub past : (r : Register) → Keeps state.before r → drop r.n numbers.after ≡ drop r.n numbers.before
+  pub given : (b : Book) → KeepsBook state.before b → numbers.after ≡ over (given b (close (length numbers.before))) numbers.before
 
 pub data Calls : List Call → List ℕ → List ℕ → List ℕ → List Lent → Type 0 where
   none : {ws : List ℕ} → Calls [] ws ws [] []
-  then-call : {c : Call} {cs : List Call} {ws us vs ks : List ℕ} {ls : List Lent} {k : ℕ} → isClose c ≡ false → Edits c ws us k → Calls cs us vs ks ls
+  then_call : {c : Call} {cs : List Call} {ws us vs ks : List ℕ} {ls : List Lent} {k : ℕ} → is_close c ≡ false → Edits c ws us k → Calls cs us vs ks ls
       → Calls (c ∷ cs) ws vs (k ∷ ks) ls
-  then-close : {cs : List Call} {ws us vs ks : List ℕ} {ls : List Lent} {k : ℕ} (l : Lent) → Renumbers (record { before = ws; after = us }) l k
-      → Calls cs us vs ks ls → Calls (close (length (l .before)) ∷ cs) ws vs (k ∷ ks) (l ∷ ls)
-  then-draft : {cs : List Call} {ws us vs ks : List ℕ} {ls : List Lent} {k : ℕ} (ds : List ℕ) → Applies ds ws us k → k < 2 * pastCounts
-      → Calls cs us vs ks ls → Calls (draftCalls ds ++ cs) ws vs (replicate (length ds) 0 ++ ks) ls
-  refused-draft : {cs : List Call} {ws us vs ks : List ℕ} {ls : List Lent} {k : ℕ} (ds : List ℕ) → Applies ds ws us k → 2 * pastCounts ≤ k
+  then_close : {cs : List Call} {ws us vs ks : List ℕ} {ls : List Lent} {k : ℕ} (l : Lent) → Renumbers (record { before = ws; after = us }) l k
+      → Calls cs us vs ks ls → Calls (close (length l.before) ∷ cs) ws vs (k ∷ ks) (l ∷ ls)
+  then_draft : {cs : List Call} {ws us vs ks : List ℕ} {ls : List Lent} {k : ℕ} (ds : List ℕ) → Applies ds ws us k → k < 2 * past_counts
+      → Calls cs us vs ks ls → Calls (draft_calls ds ++ cs) ws vs (replicate (length ds) 0 ++ ks) ls
+  refused_draft : {cs : List Call} {ws us vs ks : List ℕ} {ls : List Lent} {k : ℕ} (ds : List ℕ) → Applies ds ws us k → 2 * past_counts ≤ k
       → Calls cs us vs ks ls → Calls cs ws vs ks ls
 
 pub record WordsMade (n : ℕ) (cs : List Call) (ws vs ks : List ℕ) (ls : List Lent) : Type 0 where

@@ -5,13 +5,11 @@
 --   ReadsMarks before after r a
 --                   the marks of its records, from record 0 on, likewise
 -- Assumes nothing: these are definitions.
-use mathlib.Core.List.{List}
-use Prim.Native.Nat.{ℕ}
-use lib.ListN.{take}
-use Rattle·answers.specs.Answers.{FirstPart}
-use Rattle·answers.specs.declared.Counted.{Counted}
-use Rattle·register.specs.Questions.{Sized, MarkList, TotalList}
-use Rattle·register.specs.declared.Register.{Register}
+use Rattle.std.specs.Prelude.{List, ℕ, take}
+use Rattle.answers.specs.Answers.{FirstPart}
+use Rattle.answers.specs.declared.Counted.{Counted}
+use Rattle.register.specs.Questions.{Sized, MarkList, TotalList}
+use Rattle.register.specs.declared.Register.{Register}
 
 abbrev pub ReadsTotals : List ℕ → List ℕ → Register → Counted → Type 0
 ReadsTotals before after r a = (ts : List ℕ) × TotalList r ts × FirstPart ts before after a

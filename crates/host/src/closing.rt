@@ -1,13 +1,14 @@
 // Closing up the numbers of a register that the caller keeps as words.
-ghost use Rattle·host·specs.specs.Histories.{Renumbers};
+ghost use Rattle.host.specs.Histories.{Renumbers};
+
 use crate::edits::keep;
 use register::Register;
 
 // The numbers closed up: the new number of each old one, by ascending old number, or 65,535 for a withdrawn one.
-#[no_mangle]
+#[unsafe(no_mangle)]
 pub extern "C" fn dating_close_up(state: &mut [u32], numbers: &mut [u16]) -> u32
-    ensures { λ k. ⌜ Renumbers (record { before = now (state .entry); after = now (state .exit) })
-        (record { before = now (numbers .entry); after = now (numbers .exit) }) k ⌝ }
+    ensures { Renumbers (record { before = state.old; after = state.new })
+        (record { before = numbers.old; after = numbers.new }) result }
 {
     let loaded = Register::load(state);
     let answer = loaded.answer;

@@ -1,10 +1,9 @@
 // A list of edits made all or none, of a register that the caller keeps as words.
-ghost use mathlib.Core.Path.{_≡_};
-ghost use Prim.Native.Nat.{_+_, _*_, _<_};
-ghost use Rattle·host·specs.specs.Host.{pastCounts, refusal};
-ghost use Rattle·host·specs.specs.Drafts.{placeUnit, Applies};
-use answers::PAST_COUNTS;
-use answers::told_refusal;
+ghost use Rattle.std.specs.Prelude.{◌≡◌, ◌+◌, ◌*◌, ◌<◌};
+ghost use Rattle.host.specs.Host.{past_counts, refusal};
+ghost use Rattle.host.specs.Drafts.{place_unit, Applies};
+
+use answers::{PAST_COUNTS, told_refusal};
 use engine::DraftAnswer;
 use register::Register;
 
@@ -13,17 +12,17 @@ const PLACE_UNIT: u64 = 32;
 
 // A refusal at a place told as 64 bits.
 fn told_at(place: usize, number: u32) -> u64
-    requires { ⌜ place < pastCounts ⌝ }
-    ensures { λ k. ⌜ k ≡ refusal (placeUnit * place + number) ⌝ }
+    requires { place < past_counts }
+    ensures { result ≡ refusal (place_unit * place + number) }
 {
     told_refusal(number) + PLACE_UNIT * place as u64
 }
 
 // Every call of a list made, or none; the calls are words of a history. How many were made; a refusal has 32 times the place of the first that is refused, and
 // its number.
-#[no_mangle]
+#[unsafe(no_mangle)]
 pub extern "C" fn dating_apply_all(state: &mut [u32], calls: &[u64]) -> u64
-    ensures { λ k. ⌜ Applies (now (calls .entry)) (now (state .entry)) (now (state .exit)) k ⌝ }
+    ensures { Applies calls.now state.old state.new result }
 {
     let loaded = Register::load(state);
     let answer = loaded.answer;

@@ -1,20 +1,18 @@
 // Generations, over a register that the caller keeps as words. (A module cannot have the name of the crate that it calls.)
-ghost use mathlib.Core.Path.{_≡_};
-ghost use Prim.Native.Nat.{_^_, _≤_};
-ghost use lib.ListN.{length};
-ghost use Rattle·answers.specs.Answers.{counted};
-ghost use Rattle·generations.specs.Generating.{generationsCounted, Generates};
-ghost use Rattle·host·specs.specs.Host.{Asked};
-ghost use Rattle·host·specs.specs.Generations.{toldGenerations};
-use answers::PAST_COUNTS;
-use answers::told_refusal;
+ghost use Rattle.std.specs.Prelude.{◌≡◌, ◌^◌, ◌≤◌, length};
+ghost use Rattle.answers.specs.Answers.{counted};
+ghost use Rattle.generations.specs.Generating.{generations_counted, Generates};
+ghost use Rattle.host.specs.Host.{Asked};
+ghost use Rattle.host.specs.Generations.{told_generations};
+
+use answers::{PAST_COUNTS, told_refusal};
 use generations::GenerationsAnswer;
 use register::Register;
 
 // The answer told as 64 bits.
 fn told_generations(answer: GenerationsAnswer) -> u64
-    requires { ⌜ counted (generationsCounted answer) ≤ 2 ^ 62 ⌝ }
-    ensures { λ k. ⌜ k ≡ toldGenerations answer ⌝ }
+    requires { counted (generations_counted answer) ≤ 2 ^ 62 }
+    ensures { result ≡ told_generations answer }
 {
     match answer {
         GenerationsAnswer::Numbers(count) => count as u64,
@@ -24,15 +22,15 @@ fn told_generations(answer: GenerationsAnswer) -> u64
 }
 
 // The numbers of the records in use, by the longest run of links of the labels that ends at each; or the first loop of such links.
-#[no_mangle]
+#[unsafe(no_mangle)]
 pub extern "C" fn dating_generations(
     state: &[u32],
     labels: &[u8],
     work: &mut [u64],
     list: &mut [u32],
 ) -> u64
-    ensures { λ k. ⌜ Asked (now (state .entry)) (λ r. Generates r (now (labels .entry)) (length (now (work .entry))) (now (list .entry)) (now (list .exit)))
-        toldGenerations (now (list .entry)) (now (list .exit)) k ⌝ }
+    ensures { Asked state.now (λ r. Generates r labels.now (length work.old) list.old list.new)
+        told_generations list.old list.new result }
 {
     let loaded = Register::load(state);
     let answer = loaded.answer;

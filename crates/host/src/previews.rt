@@ -1,18 +1,16 @@
 // The preview of an edit: the kind and arguments of one edit or undo, and one pair question. The edit is made on a copy of the caller's words, and the question
 // is asked of the copy.
-ghost use lib.ListN.{length};
-ghost use Rattle·register.specs.Calls.{callOf};
-ghost use Rattle·register.specs.History.{kindCall};
-ghost use Rattle·host·specs.specs.Previews.{Foresees, Previewed};
-use answers::copy_u32;
-use answers::told;
-use answers::told_refusal;
-use register::Call;
-use register::Entry;
+ghost use Rattle.std.specs.Prelude.{length};
+ghost use Rattle.register.specs.Calls.{call_of};
+ghost use Rattle.register.specs.History.{kind_call};
+ghost use Rattle.host.specs.Previews.{Foresees, Previewed};
+
+use answers::{copy_u32, told, told_refusal};
+use register::{Call, Entry};
 
 // The preview of a call, made on the words themselves.
 fn foresee(words: &mut [u32], call: Call, text: &[u8], work: &mut [u64], list: &mut [u32]) -> u64
-    ensures { λ k. ⌜ Foresees (callOf call) (now (words .entry)) (now (text .entry)) (length (now (work .entry))) (now (list .entry)) (now (list .exit)) k ⌝ }
+    ensures { Foresees (call_of call) words.old text.now (length work.old) list.old list.new result }
 {
     let number = register::edit_in(words, call);
     if number != 0 {
@@ -26,7 +24,7 @@ fn foresee(words: &mut [u32], call: Call, text: &[u8], work: &mut [u64], list: &
 
 // The preview of a call on the register whose words the state has.
 fn preview(state: &[u32], call: Call, text: &[u8], work: &mut [u64], list: &mut [u32]) -> u64
-    ensures { λ k. ⌜ Foresees (callOf call) (now (state .entry)) (now (text .entry)) (length (now (work .entry))) (now (list .entry)) (now (list .exit)) k ⌝ }
+    ensures { Foresees (call_of call) state.now text.now (length work.old) list.old list.new result }
 {
     if state.len() < register::STATE_WORDS {
         return told_refusal(book::NOT_OPEN);
@@ -38,7 +36,7 @@ fn preview(state: &[u32], call: Call, text: &[u8], work: &mut [u64], list: &mut 
 
 // The pairs of an expression if an edit or undo were made, as many as the list takes; how many they are in all. The kind is a frame's, and of a record alone
 // `from` is the record.
-#[no_mangle]
+#[unsafe(no_mangle)]
 pub extern "C" fn dating_preview(
     state: &[u32],
     kind: u16,
@@ -49,8 +47,8 @@ pub extern "C" fn dating_preview(
     work: &mut [u64],
     list: &mut [u32],
 ) -> u64
-    ensures { λ k. ⌜ Previewed (now (state .entry)) (now (text .entry)) (length (now (work .entry))) (now (list .entry)) (now (list .exit)) k
-        (kindCall «kind» from label to) ⌝ }
+    ensures { Previewed state.now text.now (length work.old) list.old list.new result
+        (kind_call «kind» from label to) }
 {
     let entry = register::entry_of(kind as u64, from, label, to);
     match entry {

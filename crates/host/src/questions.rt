@@ -1,56 +1,56 @@
 // What is told by one number of a register that the caller keeps as words, and both questions.
-ghost use lib.ListN.{length};
-ghost use Rattle·query.specs.Asking.{AsksPairs};
-ghost use Rattle·chains.specs.Replies.{Replies};
-ghost use Rattle·ends.specs.Asking.{AsksEnds, AsksStarts};
-ghost use Rattle·host·specs.specs.Host.{toldCounted, toldChain, Asked, Sizes, TellsLock, TellsWithdrawn, TellsTotal};
+ghost use Rattle.std.specs.Prelude.{length};
+ghost use Rattle.query.specs.Asking.{AsksPairs};
+ghost use Rattle.chains.specs.Replies.{Replies};
+ghost use Rattle.ends.specs.Asking.{AsksEnds, AsksStarts};
+ghost use Rattle.host.specs.Host.{told_counted, told_chain, Asked, Sizes, TellsLock, TellsWithdrawn, TellsTotal};
+
 use crate::told::told_chain;
-use answers::told;
-use answers::told_refusal;
+use answers::{told, told_refusal};
 use register::Register;
 
 // The number of records; 0 if the words are no register's.
-#[no_mangle]
+#[unsafe(no_mangle)]
 pub extern "C" fn dating_size(state: &[u32]) -> u32
-    ensures { λ k. ⌜ Sizes (now (state .entry)) k ⌝ }
+    ensures { Sizes state.now result }
 {
     register::size_in(state) as u32
 }
 
 // Whether a record is locked: 1 or 0; 0 if the words are no register's.
-#[no_mangle]
+#[unsafe(no_mangle)]
 pub extern "C" fn dating_locked(state: &[u32], record: u16) -> u32
-    ensures { λ k. ⌜ TellsLock (now (state .entry)) «record» k ⌝ }
+    ensures { TellsLock state.now «record» result }
 {
     register::has_mark(state, record, register::LOCK_MARK) as u32
 }
 
 // Whether a record is withdrawn: 1 or 0; 0 if the words are no register's.
-#[no_mangle]
+#[unsafe(no_mangle)]
 pub extern "C" fn dating_withdrawn(state: &[u32], record: u16) -> u32
-    ensures { λ k. ⌜ TellsWithdrawn (now (state .entry)) «record» k ⌝ }
+    ensures { TellsWithdrawn state.now «record» result }
 {
     register::has_mark(state, record, register::WITHDRAWN_MARK) as u32
 }
 
 // The number of links of a label.
-#[no_mangle]
+#[unsafe(no_mangle)]
 pub extern "C" fn dating_total(state: &[u32], label: u8) -> u64
-    ensures { λ k. ⌜ TellsTotal (now (state .entry)) label k ⌝ }
+    ensures { TellsTotal state.now label result }
 {
     told(register::total_in(state, label))
 }
 
 // The pairs that have a chain, ascending, each once, as many as the list takes; how many they are in all.
-#[no_mangle]
+#[unsafe(no_mangle)]
 pub extern "C" fn dating_pairs(
     state: &[u32],
     text: &[u8],
     work: &mut [u64],
     list: &mut [u32],
 ) -> u64
-    ensures { λ k. ⌜ Asked (now (state .entry)) (λ r. AsksPairs r (now (text .entry)) (length (now (work .entry))) (now (list .entry)) (now (list .exit)))
-        toldCounted (now (list .entry)) (now (list .exit)) k ⌝ }
+    ensures { Asked state.now (λ r. AsksPairs r text.now (length work.old) list.old list.new)
+        told_counted list.old list.new result }
 {
     let loaded = Register::load(state);
     let answer = loaded.answer;
@@ -61,7 +61,7 @@ pub extern "C" fn dating_pairs(
 }
 
 // The first of the shortest chains from one record to another.
-#[no_mangle]
+#[unsafe(no_mangle)]
 pub extern "C" fn dating_chain(
     state: &[u32],
     from: u16,
@@ -70,8 +70,8 @@ pub extern "C" fn dating_chain(
     work: &mut [u64],
     list: &mut [u32],
 ) -> u64
-    ensures { λ k. ⌜ Asked (now (state .entry)) (λ r. Replies r from to (now (text .entry)) (length (now (work .entry))) (now (list .entry)) (now (list .exit)))
-        toldChain (now (list .entry)) (now (list .exit)) k ⌝ }
+    ensures { Asked state.now (λ r. Replies r from to text.now (length work.old) list.old list.new)
+        told_chain list.old list.new result }
 {
     if !register::is_register(state) {
         return told_refusal(book::NOT_OPEN);
@@ -82,10 +82,10 @@ pub extern "C" fn dating_chain(
 }
 
 // The ends of a record, ascending, as many as the list takes; how many they are in all.
-#[no_mangle]
+#[unsafe(no_mangle)]
 pub extern "C" fn dating_ends(state: &[u32], from: u16, text: &[u8], list: &mut [u32]) -> u64
-    ensures { λ k. ⌜ Asked (now (state .entry)) (λ r. AsksEnds r from (now (text .entry)) (now (list .entry)) (now (list .exit)))
-        toldCounted (now (list .entry)) (now (list .exit)) k ⌝ }
+    ensures { Asked state.now (λ r. AsksEnds r from text.now list.old list.new)
+        told_counted list.old list.new result }
 {
     if !register::is_register(state) {
         return told_refusal(book::NOT_OPEN);
@@ -96,10 +96,10 @@ pub extern "C" fn dating_ends(state: &[u32], from: u16, text: &[u8], list: &mut 
 }
 
 // The starts of a record, likewise.
-#[no_mangle]
+#[unsafe(no_mangle)]
 pub extern "C" fn dating_starts(state: &[u32], to: u16, text: &[u8], list: &mut [u32]) -> u64
-    ensures { λ k. ⌜ Asked (now (state .entry)) (λ r. AsksStarts r to (now (text .entry)) (now (list .entry)) (now (list .exit)))
-        toldCounted (now (list .entry)) (now (list .exit)) k ⌝ }
+    ensures { Asked state.now (λ r. AsksStarts r to text.now list.old list.new)
+        told_counted list.old list.new result }
 {
     if !register::is_register(state) {
         return told_refusal(book::NOT_OPEN);

@@ -1,13 +1,13 @@
 // Sole support, of a register that the caller keeps as words.
-ghost use lib.ListN.{length};
-ghost use Rattle·support.specs.Support.{Supports};
-ghost use Rattle·host·specs.specs.Host.{toldCounted, Asked};
-use answers::told;
-use answers::told_refusal;
+ghost use Rattle.std.specs.Prelude.{length};
+ghost use Rattle.support.specs.Support.{Supports};
+ghost use Rattle.host.specs.Host.{told_counted, Asked};
+
+use answers::{told, told_refusal};
 use register::Register;
 
 // The records that lose every chain to the anchors when the links of the core are gone, ascending; how many they are.
-#[no_mangle]
+#[unsafe(no_mangle)]
 pub extern "C" fn dating_sole_support(
     state: &[u32],
     core: u16,
@@ -16,9 +16,9 @@ pub extern "C" fn dating_sole_support(
     work: &mut [u64],
     list: &mut [u32],
 ) -> u64
-    ensures { λ k. ⌜ Asked (now (state .entry))
-        (λ r. Supports r core (now (text .entry)) (now (anchors .entry)) (length (now (work .entry))) (now (list .entry)) (now (list .exit)))
-        toldCounted (now (list .entry)) (now (list .exit)) k ⌝ }
+    ensures { Asked state.now
+        (λ r. Supports r core text.now anchors.now (length work.old) list.old list.new)
+        told_counted list.old list.new result }
 {
     let loaded = Register::load(state);
     let answer = loaded.answer;

@@ -1,10 +1,11 @@
 // Offsets known within limits, of a register that the caller keeps as words.
-ghost use lib.ListN.{length};
-ghost use Rattle·offsets.specs.Answers.{OffsetsTold};
+ghost use Rattle.std.specs.Prelude.{length};
+ghost use Rattle.offsets.specs.Answers.{OffsetsTold};
+
 use offsets::Tie;
 
 // The narrowest limits of how many rings each record begins after the base: two words to a record, least and most, or 1 and 0 for a free one.
-#[no_mangle]
+#[unsafe(no_mangle)]
 pub extern "C" fn dating_offsets(
     state: &[u32],
     base: u16,
@@ -12,7 +13,7 @@ pub extern "C" fn dating_offsets(
     work: &mut [i64],
     list: &mut [i32],
 ) -> u64
-    ensures { λ k. ⌜ OffsetsTold (now (state .entry)) base (now (ties .entry)) (length (now (work .entry))) (now (list .entry)) (now (list .exit)) k ⌝ }
+    ensures { OffsetsTold state.now base ties.now (length work.old) list.old list.new result }
 {
     offsets::offsets(state, base, ties, work, list)
 }

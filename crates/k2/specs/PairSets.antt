@@ -1,9 +1,9 @@
 -- Sets of pairs of records, and what the algebra makes of them.
 --   Cells            a set of pairs as the cells of a square table: 1 at row x and column y if (x, y) is in the set, else 0
 --   IsSet n a        a is a set of pairs of records below n
---   pairWord x y     a pair's word, from × 1,024 + to
+--   pair_word x y     a pair's word, from × 1,024 + to
 --   listed n a       the words of a set's pairs, ascending
---   setOf ps         the set of a list of pair words
+--   set_of ps         the set of a list of pair words
 --   PairsBelow n ps  both ends of each pair word of the list ps are below n
 --   union, intersection, difference, transpose
 --                    pairs in either, in both, in the first and not in the second; each pair exchanged
@@ -12,11 +12,8 @@
 --   closure n a      the same computed, as a set: the pairs that lead from one to the other through records below n
 --   diagonal f       each record at which f is 1, joined to itself
 -- Assumes nothing: these are definitions.
-use mathlib.Core.Path.{_≡_}
-use mathlib.Core.List.{List, [], _∷_, _++_}
-use Prim.Native.Nat.{ℕ, zero, suc, _+_, _-_, _*_, _/_, _%_, _≤_, _<_, min, max}
-use lib.Dec.{ltb, eqb}
-use Rattle·book.specs.Basics.{bit, has, In}
+use Rattle.std.specs.Prelude.{◌≡◌, List, [], ◌∷◌, ◌++◌, ℕ, zero, suc, ◌+◌, ◌-◌, ◌*◌, ◌/◌, ◌%◌, ◌≤◌, ◌<◌, min, max, ltb, eqb}
+use Rattle.book.specs.Basics.{bit, has, In}
 
 abbrev pub Cells : Type 0
 Cells = ℕ → ℕ → ℕ
@@ -26,30 +23,30 @@ pub record IsSet (n : ℕ) (a : Cells) : Type 0 where
   pub row : (x y : ℕ) → n ≤ x → a x y ≡ 0
   pub column : (x y : ℕ) → n ≤ y → a x y ≡ 0
 
-abbrev pub pairWord : ℕ → ℕ → ℕ
-pairWord x y = x * 1024 + y
+abbrev pub pair_word : ℕ → ℕ → ℕ
+pair_word x y = x * 1024 + y
 
 -- the word w where the cell is not 0
-abbrev pub ifSet : ℕ → ℕ → List ℕ
-ifSet zero w = []
-ifSet (suc v) w = w ∷ []
+abbrev pub if_set : ℕ → ℕ → List ℕ
+if_set zero w = []
+if_set (suc v) w = w ∷ []
 
 -- of row x, the pairs in the columns below m
-unfoldable pub rowPairs : Cells → ℕ → ℕ → List ℕ
-rowPairs a x zero = []
-rowPairs a x (suc m) = rowPairs a x m ++ ifSet (a x m) (pairWord x m)
+unfoldable pub row_pairs : Cells → ℕ → ℕ → List ℕ
+row_pairs a x zero = []
+row_pairs a x (suc m) = row_pairs a x m ++ if_set (a x m) (pair_word x m)
 
 -- of the rows below m, the pairs in the columns below n
-unfoldable pub rowsPairs : Cells → ℕ → ℕ → List ℕ
-rowsPairs a n zero = []
-rowsPairs a n (suc m) = rowsPairs a n m ++ rowPairs a m n
+unfoldable pub rows_pairs : Cells → ℕ → ℕ → List ℕ
+rows_pairs a n zero = []
+rows_pairs a n (suc m) = rows_pairs a n m ++ row_pairs a m n
 
 unfoldable pub listed : ℕ → Cells → List ℕ
-listed n a = rowsPairs a n n
+listed n a = rows_pairs a n n
 
 -- a column is below 1,024, so that no two pairs have one word
-unfoldable pub setOf : List ℕ → Cells
-setOf ps x y = min (bit (ltb y 1024)) (bit (has eqb (pairWord x y) ps))
+unfoldable pub set_of : List ℕ → Cells
+set_of ps x y = min (bit (ltb y 1024)) (bit (has eqb (pair_word x y) ps))
 
 abbrev pub PairsBelow : ℕ → List ℕ → Type 0
 PairsBelow n ps = (w : ℕ) → In w ps → (w / 1024 < n) × (w % 1024 < n)

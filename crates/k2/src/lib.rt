@@ -1,19 +1,20 @@
 // The definitions under specs/ say what sets of pairs and their k2-trees are; their laws stand beside them. The code gives the sizes of a tree for n records:
 // its height, the bits of a full one, and D, the words of a full one. They are defined in specs/Trees.antt and specs/Heap.antt.
-ghost use mathlib.Core.Path.{_≡_};
-ghost use Prim.Native.Nat.{_^_, _≤_};
-ghost use Rattle·book.specs.Causes.{maxRecords};
-ghost use Rattle·k2·specs.specs.Sizes.{mostTreeWords, mostTreeBits};
-ghost use Rattle·k2·specs.specs.Trees.{height, treeUnit};
-ghost use Rattle·k2·specs.specs.Heap.{fullSize};
+#![tactic(auto)]
+
+ghost use Rattle.std.specs.Prelude.{◌≡◌, ◌^◌, ◌≤◌};
+ghost use Rattle.book.specs.Causes.{max_records};
+ghost use Rattle.k2.specs.Sizes.{most_tree_words, most_tree_bits};
+ghost use Rattle.k2.specs.Trees.{height, tree_unit};
+ghost use Rattle.k2.specs.Heap.{full_size};
 
 // The words of 1,024 rows of 1,024 bits.
 pub const ROWS_WORDS: usize = 16384;
 
 // The height of the trees for n records: the side is 2 ^ height.
 pub fn height(n: usize) -> usize
-    requires { ⌜ n ≤ maxRecords ⌝ }
-    ensures { λ r. ⌜ (r ≡ height n) × (1 ≤ r) × (r ≤ 10) × (n ≤ 2 ^ r) ⌝ }
+    requires { n ≤ max_records }
+    ensures { (result ≡ height n) × (1 ≤ result) × (result ≤ 10) × (n ≤ 2 ^ result) }
 {
     let mut h = 1;
     let mut s = 2;
@@ -26,8 +27,8 @@ pub fn height(n: usize) -> usize
 
 // The bits of a full tree of h levels.
 pub fn full_size(h: usize) -> usize
-    requires { ⌜ h ≤ 10 ⌝ }
-    ensures { λ r. ⌜ (r ≡ fullSize h 1) × (r ≤ mostTreeBits) ⌝ }
+    requires { h ≤ 10 }
+    ensures { (result ≡ full_size h 1) × (result ≤ most_tree_bits) }
 {
     let mut s = 0;
     let mut k = 1;
@@ -42,8 +43,8 @@ pub fn full_size(h: usize) -> usize
 
 // D: the words of a full tree.
 pub fn tree_unit(n: usize) -> usize
-    requires { ⌜ n ≤ maxRecords ⌝ }
-    ensures { λ r. ⌜ (r ≡ treeUnit n) × (1 ≤ r) × (r ≤ mostTreeWords) ⌝ }
+    requires { n ≤ max_records }
+    ensures { (result ≡ tree_unit n) × (1 ≤ result) × (result ≤ most_tree_words) }
 {
     (full_size(height(n)) + 63) / 64
 }

@@ -2,9 +2,8 @@
 --   unfit           what stands for a word that is no number, or no label
 --   read fits n     n if the word fits, else that
 -- Assumes nothing: these are definitions.
-use mathlib.Core.Bool.{Bool}
-use Prim.Native.Nat.{ℕ}
-use Rattle·book.specs.Basics.{pick}
+use Rattle.std.specs.Prelude.{Bool, ℕ}
+use Rattle.book.specs.Basics.{pick}
 
 abbrev pub unfit : ℕ
 unfit = 65536

@@ -1,192 +1,187 @@
 -- Laws of what is said, by what the code has read.
---   typed-long, typed-short, begun-none, begun-comment, begun-request
+--   typed_long, typed_short, begun_none, begun_comment, begun_request
 --                         a line, by its length and its first byte that is no blank
---   label-under           a label that was read is one
---   numbered-not, numbered-more, numbered-is
+--   label_under           a label that was read is one
+--   numbered_not, numbered_more, numbered_is
 --                         one number and no more: it is none; more follows; it is
---   lettered-not, lettered-more, lettered-is
+--   lettered_not, lettered_more, lettered_is
 --                         one letter and no more
---   alone-more, alone-is  no argument
+--   alone_more, alone_is  no argument
 --   LinkRead s x t l u y v
 --                         of the bytes s the words x, l and y are read, with what follows each
---   linked-not-from, linked-not-label, linked-not-to, linked-more, linked-is
+--   linked_not_from, linked_not_label, linked_not_to, linked_more, linked_is
 --                         FROM LETTER TO and no more, in this order
 --   EndsRead s x t y u v  of the bytes s the words x and y are read, with what follows each, and then the text v
---   chained-not-from, chained-not-to, chained-is
+--   chained_not_from, chained_not_to, chained_is
 --                         FROM TO EXPRESSION, in this order
 -- Assumes nothing.
-use mathlib.Core.Path.{_≡_, refl, _∙_}
-use mathlib.Core.List.{List, [], _∷_, _++_}
-use mathlib.Core.Bool.{true, false}
-use Prim.Native.Nat.{ℕ, _≤_, _<_}
-use native.Mathlib.Omega.{arith}
-use lib.ListN.{length, getD}
-use borrow.Author.Tests.{lt-ltb, le-ltb, eq-eqb, ne-eqb}
-use Rattle·book.specs.Causes.{labels}
-use Rattle·session.specs.Program.{twoBytes}
-use Rattle·session.specs.declared.Shape.the-variants.{Empty, Record, Link, Label, Ends}
-use Rattle·lines·specs.specs.Typed.{word, rest, skip, empty, isNumber, numberOf, isLabel, labelOf, text, hash, maxLine, nothing, framed}
-use Rattle·lines·specs.specs.Typed.{misfit, argued, begun, typed}
-use Rattle·lines·specs.specs.TypedLaws.{requested, and-false}
-use Rattle·lines·specs.specs.Read.{unfit, read}
-use Rattle·lines·specs.specs.ReadLaws.{read-fits, read-not, number-small, label-small}
+use Rattle.std.specs.Prelude.{◌≡◌, refl, List, [], ◌∷◌, ◌++◌, true, false, ℕ, ◌≤◌, ◌<◌, length, get_or}
+use Rattle.std.proofs.Common.{◌∙◌, arith, lt-ltb, le-ltb, eq-eqb, ne_eqb}
+use Rattle.book.specs.Causes.{labels}
+use Rattle.session.specs.Program.{two_bytes}
+use Rattle.session.specs.declared.Shape.TheVariants.{Empty, Record, Link, Label, Ends}
+use Rattle.lines.specs.Typed.{word, rest, skip, empty, is_number, number_of, is_label, label_of, text, hash, max_line, nothing, framed}
+use Rattle.lines.specs.Typed.{misfit, argued, begun, typed}
+use Rattle.lines.specs.TypedLaws.{requested, and-false}
+use Rattle.lines.specs.Read.{unfit, read}
+use Rattle.lines.specs.ReadLaws.{read_fits, read_not, number_small, label_small}
 
 -- ---- a line
-pub typed-long : (s : List ℕ) → maxLine < length s → typed s ≡ misfit
+pub typed_long : (s : List ℕ) → max_line < length s → typed s ≡ misfit
 unfolding typed
-typed-long s h = rw (lt-ltb maxLine (length s) h)
+typed_long s h = rw (lt-ltb max_line (length s) h)
 
-pub typed-short : (s : List ℕ) → length s ≤ maxLine → typed s ≡ begun (skip s)
+pub typed_short : (s : List ℕ) → length s ≤ max_line → typed s ≡ begun (skip s)
 unfolding typed
-typed-short s h = rw (le-ltb maxLine (length s) h)
+typed_short s h = rw (le-ltb max_line (length s) h)
 
-pub begun-none : (s : List ℕ) → length s ≡ 0 → begun s ≡ nothing
+pub begun_none : (s : List ℕ) → length s ≡ 0 → begun s ≡ nothing
 unfolding begun
-begun-none [] h = refl
-begun-none (c ∷ s) h = absurd (omega arith)
+begun_none [] h = refl
+begun_none (c ∷ s) h = absurd (omega arith)
 
-pub begun-comment : (s : List ℕ) → getD s 0 0 ≡ hash → begun s ≡ nothing
+pub begun_comment : (s : List ℕ) → get_or s 0 0 ≡ hash → begun s ≡ nothing
 unfolding begun
-begun-comment [] h = refl
-begun-comment (c ∷ s) h = rw (eq-eqb c hash h)
+begun_comment [] h = refl
+begun_comment (c ∷ s) h = rw (eq-eqb c hash h)
 
-pub begun-request : (s : List ℕ) → (length s ≡ 0 → ⊥) → (getD s 0 0 ≡ hash → ⊥) → begun s ≡ requested (word s) (rest s)
+pub begun_request : (s : List ℕ) → (length s ≡ 0 → ⊥) → (get_or s 0 0 ≡ hash → ⊥) → begun s ≡ requested (word s) (rest s)
 unfolding begun
-begun-request [] h k = absurd (h refl)
-begun-request (c ∷ s) h k = rw (ne-eqb c hash k)
+begun_request [] h k = absurd (h refl)
+begun_request (c ∷ s) h k = rw (ne_eqb c hash k)
 
 -- ---- words as read
-number-fits : (w : List ℕ) (n : ℕ) → n ≡ read (isNumber w) (numberOf w) → n < unfit → record { fits : isNumber w ≡ true; is : n ≡ numberOf w }
+number_fits : (w : List ℕ) (n : ℕ) → n ≡ read (is_number w) (number_of w) → n < unfit → record { fits : is_number w ≡ true; is : n ≡ number_of w }
 unfolding read
-number-fits w n e h =
-    let yes : isNumber w ≡ true = read-fits (isNumber w) (numberOf w) (rw e at h) in
+number_fits w n e h =
+    let yes : is_number w ≡ true = read_fits (is_number w) (number_of w) (rw e at h) in
     record { fits = yes; is = e ∙ rw yes }
 
-number-not : (w : List ℕ) (n : ℕ) → n ≡ read (isNumber w) (numberOf w) → unfit ≤ n → isNumber w ≡ false
-number-not w n e h = read-not (isNumber w) (numberOf w) (number-small w) (rw e at h)
+number_not : (w : List ℕ) (n : ℕ) → n ≡ read (is_number w) (number_of w) → unfit ≤ n → is_number w ≡ false
+number_not w n e h = read_not (is_number w) (number_of w) (number_small w) (rw e at h)
 
-label-fits : (w : List ℕ) (n : ℕ) → n ≡ read (isLabel w) (labelOf w) → n < unfit → record { fits : isLabel w ≡ true; is : n ≡ labelOf w }
+label_fits : (w : List ℕ) (n : ℕ) → n ≡ read (is_label w) (label_of w) → n < unfit → record { fits : is_label w ≡ true; is : n ≡ label_of w }
 unfolding read
-label-fits w n e h =
-    let yes : isLabel w ≡ true = read-fits (isLabel w) (labelOf w) (rw e at h) in
+label_fits w n e h =
+    let yes : is_label w ≡ true = read_fits (is_label w) (label_of w) (rw e at h) in
     record { fits = yes; is = e ∙ rw yes }
 
-label-not : (w : List ℕ) (n : ℕ) → n ≡ read (isLabel w) (labelOf w) → unfit ≤ n → isLabel w ≡ false
-label-not w n e h = read-not (isLabel w) (labelOf w) (λ y. omega (arith, label-small w y)) (rw e at h)
+label_not : (w : List ℕ) (n : ℕ) → n ≡ read (is_label w) (label_of w) → unfit ≤ n → is_label w ≡ false
+label_not w n e h = read_not (is_label w) (label_of w) (λ y. omega (arith, label_small w y)) (rw e at h)
 
-pub label-under : (w : List ℕ) (n : ℕ) → n ≡ read (isLabel w) (labelOf w) → n < unfit → n < labels
-label-under w n e h = let f = label-fits w n e h in omega (arith, f .is, label-small w (f .fits))
+pub label_under : (w : List ℕ) (n : ℕ) → n ≡ read (is_label w) (label_of w) → n < unfit → n < labels
+label_under w n e h = let f = label_fits w n e h in omega (arith, f.is, label_small w f.fits)
 
-empty-none : (s : List ℕ) → length s ≤ 0 → empty s ≡ true
+empty_none : (s : List ℕ) → length s ≤ 0 → empty s ≡ true
 unfolding empty
-empty-none s h = rw (eq-eqb (length s) 0 (omega arith))
+empty_none s h = rw (eq-eqb (length s) 0 (omega arith))
 
-empty-some : (s : List ℕ) → 0 < length s → empty s ≡ false
+empty_some : (s : List ℕ) → 0 < length s → empty s ≡ false
 unfolding empty
-empty-some s h = rw (ne-eqb (length s) 0 (λ e. omega (arith, e)))
+empty_some s h = rw (ne_eqb (length s) 0 (λ e. omega (arith, e)))
 
 -- ---- one number
-module _ (s : List ℕ) {n : ℕ} {u : List ℕ} (is-n : n ≡ read (isNumber (word s)) (numberOf (word s))) (is-u : u ≡ rest s) (k : ℕ) where
-  pub numbered-not : unfit ≤ n → argued Record k s ≡ misfit
+module _ (s : List ℕ) {n : ℕ} {u : List ℕ} (is-n : n ≡ read (is_number (word s)) (number_of (word s))) (is-u : u ≡ rest s) (k : ℕ) where
+  pub numbered_not : unfit ≤ n → argued Record k s ≡ misfit
   unfolding argued
-  numbered-not h = rw (number-not (word s) n is-n h)
+  numbered_not h = rw (number_not (word s) n is-n h)
 
-  pub numbered-more : 0 < length u → argued Record k s ≡ misfit
+  pub numbered_more : 0 < length u → argued Record k s ≡ misfit
   unfolding argued
-  numbered-more h = rw (← is-u, empty-some u h, and-false (isNumber (word s)))
+  numbered_more h = rw (← is-u, empty_some u h, and-false (is_number (word s)))
 
-  pub numbered-is : n < unfit → length u ≤ 0 → argued Record k s ≡ framed k (twoBytes n)
+  pub numbered_is : n < unfit → length u ≤ 0 → argued Record k s ≡ framed k (two_bytes n)
   unfolding argued
-  numbered-is h i =
-      let v = number-fits (word s) n is-n h in
-      rw (← is-u, empty-none u i, v .fits, v .is)
+  numbered_is h i =
+      let v = number_fits (word s) n is-n h in
+      rw (← is-u, empty_none u i, v.fits, v.is)
 
 -- ---- one letter
-module _ (s : List ℕ) {n : ℕ} {u : List ℕ} (is-n : n ≡ read (isLabel (word s)) (labelOf (word s))) (is-u : u ≡ rest s) (k : ℕ) where
-  pub lettered-not : unfit ≤ n → argued Label k s ≡ misfit
+module _ (s : List ℕ) {n : ℕ} {u : List ℕ} (is-n : n ≡ read (is_label (word s)) (label_of (word s))) (is-u : u ≡ rest s) (k : ℕ) where
+  pub lettered_not : unfit ≤ n → argued Label k s ≡ misfit
   unfolding argued
-  lettered-not h = rw (label-not (word s) n is-n h)
+  lettered_not h = rw (label_not (word s) n is-n h)
 
-  pub lettered-more : 0 < length u → argued Label k s ≡ misfit
+  pub lettered_more : 0 < length u → argued Label k s ≡ misfit
   unfolding argued
-  lettered-more h = rw (← is-u, empty-some u h, and-false (isLabel (word s)))
+  lettered_more h = rw (← is-u, empty_some u h, and-false (is_label (word s)))
 
-  pub lettered-is : n < unfit → length u ≤ 0 → argued Label k s ≡ framed k (n ∷ [])
+  pub lettered_is : n < unfit → length u ≤ 0 → argued Label k s ≡ framed k (n ∷ [])
   unfolding argued
-  lettered-is h i =
-      let v = label-fits (word s) n is-n h in
-      rw (← is-u, empty-none u i, v .fits, v .is)
+  lettered_is h i =
+      let v = label_fits (word s) n is-n h in
+      rw (← is-u, empty_none u i, v.fits, v.is)
 
 -- ---- no argument
-pub alone-more : (k : ℕ) (s : List ℕ) → 0 < length s → argued Empty k s ≡ misfit
+pub alone_more : (k : ℕ) (s : List ℕ) → 0 < length s → argued Empty k s ≡ misfit
 unfolding argued
-alone-more k s h = rw (empty-some s h)
+alone_more k s h = rw (empty_some s h)
 
-pub alone-is : (k : ℕ) (s : List ℕ) → length s ≤ 0 → argued Empty k s ≡ framed k []
+pub alone_is : (k : ℕ) (s : List ℕ) → length s ≤ 0 → argued Empty k s ≡ framed k []
 unfolding argued
-alone-is k s h = rw (empty-none s h)
+alone_is k s h = rw (empty_none s h)
 
 -- ---- a link: x and what follows it, t, of it l and u, of that y and v
 pub record LinkRead (s : List ℕ) (x : ℕ) (t : List ℕ) (l : ℕ) (u : List ℕ) (y : ℕ) (v : List ℕ) : Type 0 where
-  pub from : x ≡ read (isNumber (word s)) (numberOf (word s))
-  pub after-from : t ≡ rest s
-  pub label : l ≡ read (isLabel (word t)) (labelOf (word t))
-  pub after-label : u ≡ rest t
-  pub to : y ≡ read (isNumber (word u)) (numberOf (word u))
-  pub after-to : v ≡ rest u
+  pub from : x ≡ read (is_number (word s)) (number_of (word s))
+  pub after_from : t ≡ rest s
+  pub label : l ≡ read (is_label (word t)) (label_of (word t))
+  pub after_label : u ≡ rest t
+  pub to : y ≡ read (is_number (word u)) (number_of (word u))
+  pub after_to : v ≡ rest u
 
 module _ {s t u v : List ℕ} {x l y : ℕ} (r : LinkRead s x t l u y v) (k : ℕ) where
-  pub linked-not-from : unfit ≤ x → argued Link k s ≡ misfit
+  pub linked_not_from : unfit ≤ x → argued Link k s ≡ misfit
   unfolding argued
-  linked-not-from h = rw (number-not (word s) x (r .from) h)
+  linked_not_from h = rw (number_not (word s) x r.from h)
 
-  pub linked-not-label : x < unfit → unfit ≤ l → argued Link k s ≡ misfit
+  pub linked_not_label : x < unfit → unfit ≤ l → argued Link k s ≡ misfit
   unfolding argued
-  linked-not-label h i = rw (← r .after-from, number-fits (word s) x (r .from) h .fits, label-not (word t) l (r .label) i)
+  linked_not_label h i = rw (← r.after_from, (number_fits (word s) x r.from h).fits, label_not (word t) l r.label i)
 
-  pub linked-not-to : x < unfit → l < unfit → unfit ≤ y → argued Link k s ≡ misfit
+  pub linked_not_to : x < unfit → l < unfit → unfit ≤ y → argued Link k s ≡ misfit
   unfolding argued
-  linked-not-to h i j =
-      let a = number-fits (word s) x (r .from) h in
-      let b = label-fits (word t) l (r .label) i in
-      rw (← r .after-from, ← r .after-label, a .fits, b .fits, number-not (word u) y (r .to) j)
+  linked_not_to h i j =
+      let a = number_fits (word s) x r.from h in
+      let b = label_fits (word t) l r.label i in
+      rw (← r.after_from, ← r.after_label, a.fits, b.fits, number_not (word u) y r.to j)
 
-  pub linked-more : x < unfit → l < unfit → y < unfit → 0 < length v → argued Link k s ≡ misfit
+  pub linked_more : x < unfit → l < unfit → y < unfit → 0 < length v → argued Link k s ≡ misfit
   unfolding argued
-  linked-more h i j m =
-      let a = number-fits (word s) x (r .from) h in
-      let b = label-fits (word t) l (r .label) i in
-      let d = number-fits (word u) y (r .to) j in
-      rw (← r .after-from, ← r .after-label, ← r .after-to, a .fits, b .fits, d .fits, empty-some v m)
+  linked_more h i j m =
+      let a = number_fits (word s) x r.from h in
+      let b = label_fits (word t) l r.label i in
+      let d = number_fits (word u) y r.to j in
+      rw (← r.after_from, ← r.after_label, ← r.after_to, a.fits, b.fits, d.fits, empty_some v m)
 
-  pub linked-is : x < unfit → l < unfit → y < unfit → length v ≤ 0 → argued Link k s ≡ framed k (twoBytes x ++ (l ∷ twoBytes y))
+  pub linked_is : x < unfit → l < unfit → y < unfit → length v ≤ 0 → argued Link k s ≡ framed k (two_bytes x ++ (l ∷ two_bytes y))
   unfolding argued
-  linked-is h i j m =
-      let a = number-fits (word s) x (r .from) h in
-      let b = label-fits (word t) l (r .label) i in
-      let d = number-fits (word u) y (r .to) j in
-      rw (← r .after-from, ← r .after-label, ← r .after-to, a .fits, b .fits, d .fits, empty-none v m, a .is, b .is, d .is)
+  linked_is h i j m =
+      let a = number_fits (word s) x r.from h in
+      let b = label_fits (word t) l r.label i in
+      let d = number_fits (word u) y r.to j in
+      rw (← r.after_from, ← r.after_label, ← r.after_to, a.fits, b.fits, d.fits, empty_none v m, a.is, b.is, d.is)
 
 -- ---- two ends and an expression: x and what follows it, t, of it y and u, whose text is v
 pub record EndsRead (s : List ℕ) (x : ℕ) (t : List ℕ) (y : ℕ) (u v : List ℕ) : Type 0 where
-  pub from : x ≡ read (isNumber (word s)) (numberOf (word s))
-  pub after-from : t ≡ rest s
-  pub to : y ≡ read (isNumber (word t)) (numberOf (word t))
-  pub after-to : u ≡ rest t
+  pub from : x ≡ read (is_number (word s)) (number_of (word s))
+  pub after_from : t ≡ rest s
+  pub to : y ≡ read (is_number (word t)) (number_of (word t))
+  pub after_to : u ≡ rest t
   pub expression : v ≡ text u
 
 module _ {s t u v : List ℕ} {x y : ℕ} (r : EndsRead s x t y u v) (k : ℕ) where
-  pub chained-not-from : unfit ≤ x → argued Ends k s ≡ misfit
+  pub chained_not_from : unfit ≤ x → argued Ends k s ≡ misfit
   unfolding argued
-  chained-not-from h = rw (number-not (word s) x (r .from) h)
+  chained_not_from h = rw (number_not (word s) x r.from h)
 
-  pub chained-not-to : x < unfit → unfit ≤ y → argued Ends k s ≡ misfit
+  pub chained_not_to : x < unfit → unfit ≤ y → argued Ends k s ≡ misfit
   unfolding argued
-  chained-not-to h i = rw (← r .after-from, number-fits (word s) x (r .from) h .fits, number-not (word t) y (r .to) i)
+  chained_not_to h i = rw (← r.after_from, (number_fits (word s) x r.from h).fits, number_not (word t) y r.to i)
 
-  pub chained-is : x < unfit → y < unfit → argued Ends k s ≡ framed k (twoBytes x ++ (twoBytes y ++ v))
+  pub chained_is : x < unfit → y < unfit → argued Ends k s ≡ framed k (two_bytes x ++ (two_bytes y ++ v))
   unfolding argued
-  chained-is h i =
-      let a = number-fits (word s) x (r .from) h in
-      let b = number-fits (word t) y (r .to) i in
-      rw (← r .after-from, ← r .after-to, ← r .expression, a .fits, b .fits, a .is, b .is)
+  chained_is h i =
+      let a = number_fits (word s) x r.from h in
+      let b = number_fits (word t) y r.to i in
+      rw (← r.after_from, ← r.after_to, ← r.expression, a.fits, b.fits, a.is, b.is)

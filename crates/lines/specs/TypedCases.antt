@@ -3,18 +3,17 @@
 --   table           every request; blank lines and comments; a word that is none; arguments that do not fit; blanks; leading zeros
 --   Hold cs         every line of the table cs is taken for what stands beside it
 -- Assumes nothing.
-use mathlib.Core.Path.{_≡_, refl}
-use mathlib.Core.List.{List, [], _∷_}
+use Rattle.std.specs.Prelude.{◌≡◌, refl, List, [], ◌∷◌}
 use Prim.Native.String.{String}
-use Rattle·book.specs.Causes.{broken-frame, unknown-kind}
-use Rattle·book.specs.Book.{edit, undo, add, remove, lock, unlock, withdraw, reinstate}
-use Rattle·register.specs.History.{kindCall}
-use Rattle·report.specs.Report.{bytes}
-use Rattle·session.specs.Program.{number16, twoBytes, Request, Frame, asks, faulty, opens, call, pairs, chain, totalling, shapeOf, fits, called, taken}
-use Rattle·session.specs.Program.{decode}
-use Rattle·lines·specs.specs.Typed.{blank, skip, trim, word, rest, sameBytes, empty, figure, allFigures, numberAfter, numberOf, isNumber, isLabel, labelOf}
-use Rattle·lines·specs.specs.Typed.{text, kindNamed, argued, begun, typed}
-use Rattle·lines·specs.specs.EncodingLaws.{saying}
+use Rattle.book.specs.Causes.{broken_frame, unknown_kind}
+use Rattle.book.specs.Book.{edit, undo, add, remove, lock, unlock, withdraw, reinstate}
+use Rattle.register.specs.History.{kind_call}
+use Rattle.report.specs.Report.{bytes}
+use Rattle.session.specs.Program.{number16, two_bytes, Request, Frame, asks, faulty, opens, call, pairs, chain, totalling, shape_of, fits, called, taken}
+use Rattle.session.specs.Program.{decode}
+use Rattle.lines.specs.Typed.{blank, skip, trim, word, rest, same_bytes, empty, figure, all_figures, number_after, number_of, is_number, is_label, label_of}
+use Rattle.lines.specs.Typed.{text, kind_named, argued, begun, typed}
+use Rattle.lines.specs.EncodingLaws.{saying}
 
 pub record Case : Type 0 where
   pub line : String
@@ -23,11 +22,11 @@ pub record Case : Type 0 where
 abbrev pub request : String → Request → Case
 request t q = record { line = t; what = asks q ∷ [] }
 
-abbrev pub no-word : String → Case
-no-word t = record { line = t; what = faulty unknown-kind ∷ [] }
+abbrev pub no_word : String → Case
+no_word t = record { line = t; what = faulty unknown_kind ∷ [] }
 
-abbrev pub no-fit : String → Case
-no-fit t = record { line = t; what = faulty broken-frame ∷ [] }
+abbrev pub no_fit : String → Case
+no_fit t = record { line = t; what = faulty broken_frame ∷ [] }
 
 abbrev pub silent : String → Case
 silent t = record { line = t; what = [] }
@@ -51,34 +50,34 @@ table =
     silent "  " ∷
     silent "# open 4" ∷
     silent " #" ∷
-    no-word "shut" ∷
-    no-word "opening 4" ∷
-    no-word "Open 4" ∷
-    no-fit "open" ∷
-    no-fit "open 65536" ∷
-    no-fit "open -1" ∷
-    no-fit "lock 1 2" ∷
-    no-fit "add 0 A 1" ∷
-    no-fit "add 0 ab 1" ∷
-    no-fit "add 0 a" ∷
-    no-fit "undo x" ∷
-    no-fit "chain 1 x a" ∷
-    no-fit "total" ∷
-    no-fit "total A" ∷
-    no-fit "total a b" ∷
-    no-fit "withdraw" ∷
-    no-fit "reinstate a" ∷
+    no_word "shut" ∷
+    no_word "opening 4" ∷
+    no_word "Open 4" ∷
+    no_fit "open" ∷
+    no_fit "open 65536" ∷
+    no_fit "open -1" ∷
+    no_fit "lock 1 2" ∷
+    no_fit "add 0 A 1" ∷
+    no_fit "add 0 ab 1" ∷
+    no_fit "add 0 a" ∷
+    no_fit "undo x" ∷
+    no_fit "chain 1 x a" ∷
+    no_fit "total" ∷
+    no_fit "total A" ∷
+    no_fit "total a b" ∷
+    no_fit "withdraw" ∷
+    no_fit "reinstate a" ∷
     []
 
 pub data Hold : List Case → Type 0 where
-  none-left : Hold []
-  also : {c : Case} {cs : List Case} → saying (typed (bytes (c .line))) ≡ c .what → Hold cs → Hold (c ∷ cs)
+  none_left : Hold []
+  also : {c : Case} {cs : List Case} → saying (typed (bytes c.line)) ≡ c.what → Hold cs → Hold (c ∷ cs)
 
-pub typed-cases : Hold table
-unfolding table bytes blank skip trim word rest sameBytes empty figure allFigures numberAfter numberOf isNumber isLabel labelOf text kindNamed
-    argued begun typed number16 twoBytes shapeOf fits kindCall called taken decode saying
-typed-cases =
+pub typed_cases : Hold table
+unfolding table bytes blank skip trim word rest same_bytes empty figure all_figures number_after number_of is_number is_label label_of text kind_named
+    argued begun typed number16 two_bytes shape_of fits kind_call called taken decode saying
+typed_cases =
     also refl (also refl (also refl (also refl (also refl (also refl (also refl (also refl (also refl (also refl (also refl (also refl (also refl
     (also refl (also refl (also refl (also refl (also refl (also refl (also refl (also refl (also refl (also refl (also refl (also refl (also refl
     (also refl (also refl (also refl (also refl (also refl (also refl (also refl (also refl
-    none-left)))))))))))))))))))))))))))))))))
+    none_left)))))))))))))))))))))))))))))))))

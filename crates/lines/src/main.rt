@@ -13,49 +13,50 @@
 // wrong body size, to which it answers `refused 14`, and so for a line of 2,048 bytes or more. Numbers go up to 65,535, labels are a to z.
 // Of a question's text at most 1,018 bytes are sent, since the program answers `refused 10` to every text over 256 bytes.
 // What a line says is defined in specs/Typed.antt, and its frame in specs/Encoding.antt.
+#![tactic(auto)]
+
 mod frames;
 mod requests;
 mod words;
 
-use libc::STDERR_FILENO;
-use libc::STDIN_FILENO;
-use libc::STDOUT_FILENO;
-ghost use mathlib.Core.Path.{_≡_};
-ghost use Prim.Native.Nat.{_≤_, _<_};
-ghost use lib.ListN.{length, take};
-ghost use Rattle·answers.specs.Written.{Wrote};
-ghost use Rattle·lines·specs.specs.Typed.{maxLine, typed};
-ghost use Rattle·lines·specs.specs.Encoding.{sent, frameRoom, SentAll};
+ghost use Rattle.std.specs.Prelude.{◌≡◌, ◌≤◌, ◌<◌, length, take};
+ghost use Rattle.answers.specs.Written.{Wrote};
+ghost use Rattle.lines.specs.Typed.{max_line, typed};
+ghost use Rattle.lines.specs.Encoding.{sent, frame_room, SentAll};
+
+use std::io;
+use std::io::{Read, Stdin, Stdout};
 
 // The next byte of standard input, or 256 at its end.
-fn read_byte() -> u32
-    ensures { λ r. ⌜ r ≤ 256 ⌝ }
+fn read_byte(mut stdin: Stdin) -> u32
+    ensures { result ≤ 256 }
 {
     let mut one = [0u8; 1];
-    let got = io::read_full(STDIN_FILENO, &mut one);
+    let got = stdin.read(&mut one).unwrap_or(0);
     if got == 0 { 256 } else { wide(one[0]) }
 }
 
 fn wide(b: u8) -> u32
-    ensures { λ r. ⌜ (r ≡ b) × (r < 256) ⌝ }
+    ensures { (result ≡ b) × (result < 256) }
 {
     b as u32
 }
 
 // A line without its end: its bytes, and whether more may follow.
+#[derive(Clone, Copy)]
 struct Line {
     len: usize,
     more: bool,
 }
 
 // Reads a line into the buffer; the bytes that it has no room for are dropped.
-fn read_line(line: &mut [u8]) -> Line
-    ensures { λ r. ⌜ r .len ≤ length (now (line .entry)) ⌝ }
+fn read_line(stdin: Stdin, line: &mut [u8]) -> Line
+    ensures { result.len ≤ length line.old }
 {
     let mut len = 0;
     let mut turns = u64::MAX;
     while turns > 0 {
-        let b = read_byte();
+        let b = read_byte(stdin);
         if b == 10 {
             return Line { len, more: true };
         }
@@ -72,6 +73,7 @@ fn read_line(line: &mut [u8]) -> Line
 }
 
 // How many bytes of a line were read and how many its frame has, whether they could be written, and whether more lines may follow.
+#[derive(Clone, Copy)]
 struct Turned {
     len: usize,
     written: usize,
@@ -80,15 +82,15 @@ struct Turned {
 }
 
 // Reads a line and writes its frame, with out for its bytes.
-fn turn(line: &mut [u8], out: &mut [u8]) -> Turned
-    requires { ⌜ maxLine < length (now line) ⌝ }
-    requires { ⌜ frameRoom ≤ length (now out) ⌝ }
-    ensures { λ r. ⌜ Wrote 0 (sent (typed (take (r .len) (now (line .exit))))) (now (out .entry)) (now (out .exit)) (r .written) ⌝ }
+fn turn(stdin: Stdin, stdout: Stdout, line: &mut [u8], out: &mut [u8]) -> Turned
+    requires max_line_in_bounds { max_line < length line.old }
+    requires frame_room_in_bounds { frame_room ≤ length out.old }
+    ensures { Wrote 0 (sent (typed (take result.len line.new))) out.old out.new result.written }
 {
-    let read = read_line(line);
+    let read = read_line(stdin, line);
     let len = read.len;
     let written = requests::frame(&line[..len], out);
-    let sent = io::write_all(STDOUT_FILENO, &out[..written]);
+    let sent = stdout.write_all(&out[..written]).is_ok();
     Turned {
         len,
         written,
@@ -98,14 +100,14 @@ fn turn(line: &mut [u8], out: &mut [u8]) -> Turned
 }
 
 // Reads lines and writes their frames, as long as more may follow and they can be written, and tells whether all of them were.
-fn send_all() -> bool
-    ensures { λ r. ⌜ SentAll r ⌝ }
+fn send_all(stdin: Stdin, stdout: Stdout) -> bool
+    ensures { SentAll result }
 {
     let mut line = [0u8; requests::LINE_BYTES];
     let mut out = [0u8; session::FRAME_BYTES];
     let mut lines = u64::MAX;
     while lines > 0 {
-        let turned = turn(&mut line, &mut out);
+        let turned = turn(stdin, stdout, &mut line, &mut out);
         if !turned.sent {
             return false;
         }
@@ -117,8 +119,10 @@ fn send_all() -> bool
     true
 }
 
-fn main() {
-    if !send_all() {
-        io::write_all(STDERR_FILENO, b"lines: cannot write\n");
+fn main(rt: HostRuntime) -> io::Result<()> {
+    if send_all(rt.stdin(), rt.stdout()) {
+        Ok(())
+    } else {
+        rt.stderr().write_all(b"lines: cannot write\n")
     }
 }

@@ -1,20 +1,16 @@
 // What a line says, as a frame. Each function takes the bytes after the words that are read, and hands back how many bytes it wrote.
-use crate::frames::put_ends;
-use crate::frames::put_frame;
-use crate::frames::put_link;
-use crate::frames::put_number;
+ghost use Rattle.std.specs.Prelude.{◌≡◌, ◌≤◌, length};
+ghost use Rattle.book.specs.Basics.{pick};
+ghost use Rattle.answers.specs.Written.{Wrote};
+ghost use Rattle.session.specs.Program.{shape_of};
+ghost use Rattle.session.specs.declared.Shape.TheVariants.{Empty, Record, Link, Label, Expression, Ends};
+ghost use Rattle.lines.specs.Typed.{misfit, same_bytes, kind_named, argued, typed};
+ghost use Rattle.lines.specs.Encoding.{sent, frame_room};
+
+use crate::frames::{put_ends, put_frame, put_link, put_number};
 use crate::words;
 use crate::words::NONE;
 use session::Shape;
-ghost use mathlib.Core.Path.{_≡_};
-ghost use Prim.Native.Nat.{_≤_};
-ghost use lib.ListN.{length};
-ghost use Rattle·book.specs.Basics.{pick};
-ghost use Rattle·answers.specs.Written.{Wrote};
-ghost use Rattle·session.specs.Program.{shapeOf};
-ghost use Rattle·session.specs.declared.Shape.the-variants.{Empty, Record, Link, Label, Expression, Ends};
-ghost use Rattle·lines·specs.specs.Typed.{misfit, sameBytes, kindNamed, argued, typed};
-ghost use Rattle·lines·specs.specs.Encoding.{sent, frameRoom};
 
 // The kinds of frames, in one byte; and one that there is not.
 const OPEN: u8 = session::OPEN as u8;
@@ -49,16 +45,16 @@ pub const LINE_BYTES: usize = MOST_LINE + 1;
 
 // Arguments that do not fit.
 fn broken(out: &mut [u8]) -> usize
-    requires { ⌜ frameRoom ≤ length (now out) ⌝ }
-    ensures { λ r. ⌜ Wrote 0 (sent misfit) (now (out .entry)) (now (out .exit)) r ⌝ }
+    requires { frame_room ≤ length out.old }
+    ensures { Wrote 0 (sent misfit) out.old out.new result }
 {
     put_frame(UNDO, &[0], b"", out)
 }
 
 // A request of no argument.
 fn alone(kind: u8, s: &[u8], out: &mut [u8]) -> usize
-    requires { ⌜ frameRoom ≤ length (now out) ⌝ }
-    ensures { λ r. ⌜ Wrote 0 (sent (argued Empty kind (now (s .entry)))) (now (out .entry)) (now (out .exit)) r ⌝ }
+    requires { frame_room ≤ length out.old }
+    ensures { Wrote 0 (sent (argued Empty kind s.now)) out.old out.new result }
 {
     if s.len() > 0 {
         return broken(out);
@@ -68,8 +64,8 @@ fn alone(kind: u8, s: &[u8], out: &mut [u8]) -> usize
 
 // A request of one number, a record or a size.
 fn numbered(kind: u8, s: &[u8], out: &mut [u8]) -> usize
-    requires { ⌜ frameRoom ≤ length (now out) ⌝ }
-    ensures { λ r. ⌜ Wrote 0 (sent (argued Record kind (now (s .entry)))) (now (out .entry)) (now (out .exit)) r ⌝ }
+    requires { frame_room ≤ length out.old }
+    ensures { Wrote 0 (sent (argued Record kind s.now)) out.old out.new result }
 {
     let n = words::number(s);
     let left = words::rest(s);
@@ -84,8 +80,8 @@ fn numbered(kind: u8, s: &[u8], out: &mut [u8]) -> usize
 
 // A request of a link.
 fn linked(kind: u8, s: &[u8], out: &mut [u8]) -> usize
-    requires { ⌜ frameRoom ≤ length (now out) ⌝ }
-    ensures { λ r. ⌜ Wrote 0 (sent (argued Link kind (now (s .entry)))) (now (out .entry)) (now (out .exit)) r ⌝ }
+    requires { frame_room ≤ length out.old }
+    ensures { Wrote 0 (sent (argued Link kind s.now)) out.old out.new result }
 {
     let from = words::number(s);
     let second = words::rest(s);
@@ -110,8 +106,8 @@ fn linked(kind: u8, s: &[u8], out: &mut [u8]) -> usize
 
 // A request of a label.
 fn lettered(kind: u8, s: &[u8], out: &mut [u8]) -> usize
-    requires { ⌜ frameRoom ≤ length (now out) ⌝ }
-    ensures { λ r. ⌜ Wrote 0 (sent (argued Label kind (now (s .entry)))) (now (out .entry)) (now (out .exit)) r ⌝ }
+    requires { frame_room ≤ length out.old }
+    ensures { Wrote 0 (sent (argued Label kind s.now)) out.old out.new result }
 {
     let label = words::label(s);
     let left = words::rest(s);
@@ -126,16 +122,16 @@ fn lettered(kind: u8, s: &[u8], out: &mut [u8]) -> usize
 
 // A request of an expression.
 fn expressed(kind: u8, s: &[u8], out: &mut [u8]) -> usize
-    requires { ⌜ frameRoom ≤ length (now out) ⌝ }
-    ensures { λ r. ⌜ Wrote 0 (sent (argued Expression kind (now (s .entry)))) (now (out .entry)) (now (out .exit)) r ⌝ }
+    requires { frame_room ≤ length out.old }
+    ensures { Wrote 0 (sent (argued Expression kind s.now)) out.old out.new result }
 {
     put_frame(kind, b"", words::text(s), out)
 }
 
 // A request of two ends and an expression.
 fn chained(kind: u8, s: &[u8], out: &mut [u8]) -> usize
-    requires { ⌜ frameRoom ≤ length (now out) ⌝ }
-    ensures { λ r. ⌜ Wrote 0 (sent (argued Ends kind (now (s .entry)))) (now (out .entry)) (now (out .exit)) r ⌝ }
+    requires { frame_room ≤ length out.old }
+    ensures { Wrote 0 (sent (argued Ends kind s.now)) out.old out.new result }
 {
     let from = words::number(s);
     let second = words::rest(s);
@@ -152,8 +148,8 @@ fn chained(kind: u8, s: &[u8], out: &mut [u8]) -> usize
 
 // A request of a kind, by the shape of its body.
 fn request(kind: u8, s: &[u8], out: &mut [u8]) -> usize
-    requires { ⌜ frameRoom ≤ length (now out) ⌝ }
-    ensures { λ r. ⌜ Wrote 0 (sent (argued (shapeOf kind) kind (now (s .entry)))) (now (out .entry)) (now (out .exit)) r ⌝ }
+    requires { frame_room ≤ length out.old }
+    ensures { Wrote 0 (sent (argued (shape_of kind) kind s.now)) out.old out.new result }
 {
     let shape = session::shape_of(kind as u16);
     match shape {
@@ -170,14 +166,14 @@ fn request(kind: u8, s: &[u8], out: &mut [u8]) -> usize
 
 // A kind, if the word is its name, else another.
 fn named(word: &[u8], name: &[u8], kind: u8, other: u8) -> u8
-    ensures { λ r. ⌜ r ≡ pick (sameBytes (now (word .entry)) (now (name .entry))) kind other ⌝ }
+    ensures { result ≡ pick (same_bytes word.now name.now) kind other }
 {
     if words::same(word, name) { kind } else { other }
 }
 
 // The kind of the request that a word names.
 fn kind_of(word: &[u8]) -> u8
-    ensures { λ r. ⌜ r ≡ kindNamed (now (word .entry)) ⌝ }
+    ensures { result ≡ kind_named word.now }
 {
     let kind = named(word, b"reinstate", REINSTATE, NO_KIND);
     let kind = named(word, b"withdraw", WITHDRAW, kind);
@@ -194,8 +190,8 @@ fn kind_of(word: &[u8]) -> u8
 
 // Writes the frame of a line.
 pub fn frame(line: &[u8], out: &mut [u8]) -> usize
-    requires { ⌜ frameRoom ≤ length (now out) ⌝ }
-    ensures { λ r. ⌜ Wrote 0 (sent (typed (now (line .entry)))) (now (out .entry)) (now (out .exit)) r ⌝ }
+    requires { frame_room ≤ length out.old }
+    ensures { Wrote 0 (sent (typed line.now)) out.old out.new result }
 {
     if line.len() > MOST_LINE {
         return broken(out);

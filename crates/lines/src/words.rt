@@ -1,8 +1,7 @@
 // The words of a line. What each function finds is defined in specs/Typed.antt.
-ghost use mathlib.Core.Path.{_≡_};
-ghost use lib.ListN.{length};
-ghost use Rattle·lines·specs.specs.Typed.{blank, skip, trim, word, rest, sameBytes, isNumber, numberOf, isLabel, labelOf, text};
-ghost use Rattle·lines·specs.specs.Read.{read};
+ghost use Rattle.std.specs.Prelude.{◌≡◌, length};
+ghost use Rattle.lines.specs.Typed.{blank, skip, trim, word, rest, same_bytes, is_number, number_of, is_label, label_of, text};
+ghost use Rattle.lines.specs.Read.{read};
 
 // The most bytes of a question's text that are sent.
 const MOST_TEXT: usize = 1018;
@@ -14,7 +13,7 @@ const MOST_NUMBER: u32 = 65535;
 pub const NONE: u32 = MOST_NUMBER + 1;
 
 fn is_blank(c: u8) -> bool
-    ensures { λ r. ⌜ r ≡ blank c ⌝ }
+    ensures { result ≡ blank c }
 {
     if c == b' ' {
         return true;
@@ -27,7 +26,7 @@ fn is_blank(c: u8) -> bool
 
 // The bytes without the blanks in front.
 pub fn skip<'a>(s: &'a [u8]) -> &'a [u8]
-    ensures { λ r. ⌜ now r ≡ skip (now (s .entry)) ⌝ }
+    ensures { result.now ≡ skip s.now }
 {
     let mut t = s;
     while t.len() > 0 {
@@ -40,7 +39,7 @@ pub fn skip<'a>(s: &'a [u8]) -> &'a [u8]
 }
 
 fn word_len(s: &[u8]) -> usize
-    ensures { λ r. ⌜ r ≡ length (word (now (s .entry))) ⌝ }
+    ensures { result ≡ length (word s.now) }
 {
     let mut i = 0;
     while i < s.len() {
@@ -54,7 +53,7 @@ fn word_len(s: &[u8]) -> usize
 
 // The first word.
 pub fn word<'a>(s: &'a [u8]) -> &'a [u8]
-    ensures { λ r. ⌜ now r ≡ word (now (s .entry)) ⌝ }
+    ensures { result.now ≡ word s.now }
 {
     let n = word_len(s);
     &s[..n]
@@ -62,7 +61,7 @@ pub fn word<'a>(s: &'a [u8]) -> &'a [u8]
 
 // What follows the first word, from the next one on.
 pub fn rest<'a>(s: &'a [u8]) -> &'a [u8]
-    ensures { λ r. ⌜ now r ≡ rest (now (s .entry)) ⌝ }
+    ensures { result.now ≡ rest s.now }
 {
     let n = word_len(s);
     skip(&s[n..])
@@ -70,7 +69,7 @@ pub fn rest<'a>(s: &'a [u8]) -> &'a [u8]
 
 // The bytes without the blanks at their end.
 fn trim<'a>(s: &'a [u8]) -> &'a [u8]
-    ensures { λ r. ⌜ now r ≡ trim (now (s .entry)) ⌝ }
+    ensures { result.now ≡ trim s.now }
 {
     let mut n = s.len();
     while n > 0 {
@@ -84,7 +83,7 @@ fn trim<'a>(s: &'a [u8]) -> &'a [u8]
 
 // What is sent of a question's text.
 pub fn text<'a>(s: &'a [u8]) -> &'a [u8]
-    ensures { λ r. ⌜ now r ≡ text (now (s .entry)) ⌝ }
+    ensures { result.now ≡ text s.now }
 {
     let t = trim(s);
     if t.len() > MOST_TEXT {
@@ -94,7 +93,7 @@ pub fn text<'a>(s: &'a [u8]) -> &'a [u8]
 }
 
 pub fn same(a: &[u8], b: &[u8]) -> bool
-    ensures { λ r. ⌜ r ≡ sameBytes (now (a .entry)) (now (b .entry)) ⌝ }
+    ensures { result ≡ same_bytes a.now b.now }
 {
     if a.len() != b.len() {
         return false;
@@ -110,7 +109,7 @@ pub fn same(a: &[u8], b: &[u8]) -> bool
 }
 
 fn as_number(w: &[u8]) -> u32
-    ensures { λ r. ⌜ r ≡ read (isNumber (now (w .entry))) (numberOf (now (w .entry))) ⌝ }
+    ensures { result ≡ read (is_number w.now) (number_of w.now) }
 {
     if w.len() == 0 {
         return NONE;
@@ -136,13 +135,13 @@ fn as_number(w: &[u8]) -> u32
 
 // The first word as a number.
 pub fn number(s: &[u8]) -> u32
-    ensures { λ r. ⌜ r ≡ read (isNumber (word (now (s .entry)))) (numberOf (word (now (s .entry)))) ⌝ }
+    ensures { result ≡ read (is_number (word s.now)) (number_of (word s.now)) }
 {
     as_number(word(s))
 }
 
 fn as_label(w: &[u8]) -> u32
-    ensures { λ r. ⌜ r ≡ read (isLabel (now (w .entry))) (labelOf (now (w .entry))) ⌝ }
+    ensures { result ≡ read (is_label w.now) (label_of w.now) }
 {
     if w.len() != 1 {
         return NONE;
@@ -159,7 +158,7 @@ fn as_label(w: &[u8]) -> u32
 
 // The first word as a label.
 pub fn label(s: &[u8]) -> u32
-    ensures { λ r. ⌜ r ≡ read (isLabel (word (now (s .entry)))) (labelOf (word (now (s .entry)))) ⌝ }
+    ensures { result ≡ read (is_label (word s.now)) (label_of (word s.now)) }
 {
     as_label(word(s))
 }

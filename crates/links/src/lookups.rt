@@ -1,21 +1,18 @@
 // What is looked up among the words of links: those of one label, and whether one touches a record. See specs/Lookups.antt.
-use crate::FROM_UNIT;
-use crate::LABEL_UNIT;
+ghost use Rattle.std.specs.Prelude.{◌≡◌, map, ◌≤◌, ◌<◌, length, take};
+ghost use Rattle.book.specs.Book.{touched as Book·touched};
+ghost use Rattle.links.specs.Parts.{link_of};
+ghost use Rattle.links.specs.Lookups.{LabelPart, has_at, next_place};
+
 use crate::sorted::lower_bound;
-ghost use mathlib.Core.Path.{_≡_};
-ghost use mathlib.Core.List.{map};
-ghost use Prim.Native.Nat.{_≤_, _<_};
-ghost use lib.ListN.{length, take};
-ghost use Rattle·book.specs.Book.{touched as Book·touched};
-ghost use Rattle·links·specs.specs.Parts.{linkOf};
-ghost use Rattle·links·specs.specs.Lookups.{LabelPart, hasAt, nextPlace};
+use crate::{FROM_UNIT, LABEL_UNIT};
 
 // The unit of a link's last part.
 const TO_UNIT: u32 = 1;
 
 // The part of the words of links that have one label: of ascending words exactly those, in order; of others some part of them.
 pub fn label_part<'a>(words: &'a [u32], label: u8) -> &'a [u32]
-    ensures { λ r. ⌜ LabelPart (now (words .entry)) label (now r) ⌝ }
+    ensures { LabelPart words.now label result.now }
 {
     let first = label as u32 * LABEL_UNIT;
     let from = lower_bound(words, words.len(), first);
@@ -26,8 +23,8 @@ pub fn label_part<'a>(words: &'a [u32], label: u8) -> &'a [u32]
 
 // The first place from at on whose word has the record at one side: to in its last ten bits, unit 1, or from in the ten before them, unit 1,024.
 fn next_side(words: &[u32], unit: u32, record: u16, at: usize) -> usize
-    requires { ⌜ 0 < unit ⌝ }
-    ensures { λ r. ⌜ r ≡ nextPlace (hasAt unit «record») (now (words .entry)) at ⌝ }
+    requires { 0 < unit }
+    ensures { result ≡ next_place (has_at unit «record») words.now at }
 {
     let mut i = at;
     while i < words.len() {
@@ -41,8 +38,8 @@ fn next_side(words: &[u32], unit: u32, record: u16, at: usize) -> usize
 
 // Whether a link of the first count words has the record at either side.
 pub fn touched(words: &[u32], count: usize, record: u16) -> bool
-    requires { ⌜ count ≤ length (now words) ⌝ }
-    ensures { λ r. ⌜ r ≡ Book·touched «record» (map linkOf (take count (now (words .entry)))) ⌝ }
+    requires { count ≤ length words.now }
+    ensures { result ≡ Book·touched «record» (map link_of (take count words.now)) }
 {
     let part = &words[..count];
     if next_side(part, FROM_UNIT, record, 0) < part.len() {

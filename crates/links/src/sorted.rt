@@ -1,14 +1,12 @@
 // Ascending words in the front of an array: a place found by halving, a word put in, a word cut out.
-ghost use mathlib.Core.Path.{_≡_};
-ghost use Prim.Native.Nat.{_+_, _-_, _≤_, _<_};
-ghost use lib.ListN.{length, take};
-ghost use Rattle·book.specs.Causes.{maxLinks};
-ghost use Rattle·links·specs.specs.Ascending.{putAt, cutAt, Seam, standsAt};
+ghost use Rattle.std.specs.Prelude.{◌≡◌, ◌+◌, ◌-◌, ◌≤◌, ◌<◌, length, take};
+ghost use Rattle.book.specs.Causes.{max_links};
+ghost use Rattle.links.specs.Ascending.{put_at, cut_at, Seam, stands_at};
 
 // The place of x among the first count words, by halving: the first whose word is not below x, where they ascend.
 pub fn lower_bound(words: &[u32], count: usize, x: u32) -> usize
-    requires { ⌜ count ≤ length (now words) ⌝ }
-    ensures { λ r. ⌜ Seam x (now (words .entry)) count r ⌝ }
+    requires { count ≤ length words.now }
+    ensures { Seam x words.now count result }
 {
     let mut low = 0;
     let mut high = count;
@@ -25,8 +23,8 @@ pub fn lower_bound(words: &[u32], count: usize, x: u32) -> usize
 
 // Whether x stands at a place of the first count.
 pub fn stands(words: &[u32], count: usize, at: usize, x: u32) -> bool
-    requires { ⌜ count ≤ length (now words) ⌝ }
-    ensures { λ r. ⌜ r ≡ standsAt (now (words .entry)) count at x ⌝ }
+    requires { count ≤ length words.now }
+    ensures { result ≡ stands_at words.now count at x }
 {
     if count <= at {
         return false;
@@ -36,8 +34,8 @@ pub fn stands(words: &[u32], count: usize, at: usize, x: u32) -> bool
 
 // x at the place at, and what stood there and after it one place on.
 pub fn put(a: &mut [u32], count: usize, at: usize, x: u32)
-    requires { ⌜ (at ≤ count) × (count < maxLinks) × (length (now a) ≡ maxLinks) ⌝ }
-    ensures { λ r. ⌜ take (count + 1) (now (a .exit)) ≡ putAt at x (take count (now (a .entry))) ⌝ }
+    requires { (at ≤ count) × (count < max_links) × (length a.old ≡ max_links) }
+    ensures { take (count + 1) a.new ≡ put_at at x (take count a.old) }
 {
     let mut carried = x;
     let mut j = at;
@@ -52,8 +50,8 @@ pub fn put(a: &mut [u32], count: usize, at: usize, x: u32)
 
 // What stands after the place at, one place down.
 pub fn cut(a: &mut [u32], count: usize, at: usize)
-    requires { ⌜ (at < count) × (count ≤ maxLinks) × (length (now a) ≡ maxLinks) ⌝ }
-    ensures { λ r. ⌜ take (count - 1) (now (a .exit)) ≡ cutAt at (take count (now (a .entry))) ⌝ }
+    requires { (at < count) × (count ≤ max_links) × (length a.old ≡ max_links) }
+    ensures { take (count - 1) a.new ≡ cut_at at (take count a.old) }
 {
     let mut j = at;
     while j + 1 < count {

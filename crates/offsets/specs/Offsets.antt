@@ -9,27 +9,21 @@
 --   OffsetsAre n base ts answer
 --                  the answer: "cannot all hold" if there is no placing, else the words of the records below n in ascending order
 -- Assumes nothing: these are definitions.
-use mathlib.Core.Path.{_≡_}
-use mathlib.Core.Logic.{_⊎_}
-use mathlib.Core.List.{List}
-use Prim.Native.Nat.{ℕ, _+_, _*_, _<_}
-use lib.IntN.{ℤ, pos, _-ℤ_}
-use lib.ListN.{length, getD}
-use lib.Signed.{_≤ℤ_}
-use Rattle·book.specs.Basics.{In}
-use Rattle·offsets·specs.specs.declared.Tie.{Tie}
+use Rattle.std.specs.Prelude.{◌≡◌, ◌⊎◌, List, ℕ, ◌+◌, ◌*◌, ◌<◌, ℤ, pos, ◌-ℤ◌, length, get_or, ◌≤ℤ◌}
+use Rattle.book.specs.Basics.{In}
+use Rattle.offsets.specs.declared.Tie.{Tie}
 
 abbrev pub Placing : Type 0
 Placing = ℕ → ℤ
 
 abbrev pub Meets : Placing → Tie → Type 0
-Meets p t = (t .least ≤ℤ (p (t .second) -ℤ p (t .first))) × ((p (t .second) -ℤ p (t .first)) ≤ℤ t .most)
+Meets p t = (t.least ≤ℤ (p t.second -ℤ p t.first)) × ((p t.second -ℤ p t.first) ≤ℤ t.most)
 
 abbrev pub Places : Placing → List Tie → Type 0
 Places p ts = (t : Tie) → In t ts → Meets p t
 
 abbrev pub Joins : Tie → ℕ → ℕ → Type 0
-Joins t x y = ((t .first ≡ x) × (t .second ≡ y)) ⊎ ((t .second ≡ x) × (t .first ≡ y))
+Joins t x y = ((t.first ≡ x) × (t.second ≡ y)) ⊎ ((t.second ≡ x) × (t.first ≡ y))
 
 pub data Joined (ts : List Tie) (x : ℕ) : ℕ → Type 0 where
   self : Joined ts x x
@@ -52,5 +46,5 @@ pub data Answer : Type 0 where
 pub data OffsetsAre (n base : ℕ) (ts : List Tie) : Answer → Type 0 where
   none : ((p : Placing) → Places p ts → ⊥) → OffsetsAre n base ts cannot
   some : {ws : List ℤ} (p : Placing) → Places p ts → length ws ≡ n * 2
-      → ((x : ℕ) → x < n → Limit ts base x (getD ws (x * 2) (pos 0)) (getD ws (x * 2 + 1) (pos 0)))
+      → ((x : ℕ) → x < n → Limit ts base x (get_or ws (x * 2) (pos 0)) (get_or ws (x * 2 + 1) (pos 0)))
       → OffsetsAre n base ts (limits ws)

@@ -1,15 +1,14 @@
 // Offsets known within limits. A tie says that one record begins at least so many and at most so many rings after another; `offsets` gives the narrowest
 // limits of how many rings each record begins after a base, over every placing of whole years that meets all ties, or says that none does.
-ghost use mathlib.Core.Path.{_≡_};
-ghost use mathlib.Core.Bool.{false};
-ghost use Prim.Native.Nat.{_+_, _*_, _≤_, _<_, _^_};
-ghost use lib.ListN.{length, drop};
-ghost use lib.Signed.{mag};
-ghost use Rattle·offsets·specs.specs.Relax as spec;
-ghost use Rattle·offsets·specs.specs.Thirds as three;
-ghost use Rattle·offsets·specs.specs.Finds as found;
-ghost use Rattle·offsets·specs.specs.Answers.{OffsetsTold};
-ghost use Rattle·offsets·specs.specs.Inner as inner;
+#![tactic(auto)]
+
+ghost use Rattle.std.specs.Prelude.{◌≡◌, false, ◌+◌, ◌*◌, ◌≤◌, ◌<◌, ◌^◌, length, drop};
+ghost use Rattle.std.specs.Int.Signed.{mag};
+ghost use Rattle.offsets.specs.Relax as spec;
+ghost use Rattle.offsets.specs.Thirds as three;
+ghost use Rattle.offsets.specs.Finds as found;
+ghost use Rattle.offsets.specs.Answers.{OffsetsTold};
+ghost use Rattle.offsets.specs.Inner as inner;
 
 // The limits: so many ties, and so many rings either way; the words of work for each record.
 const MAX_TIES: usize = 1024;
@@ -32,6 +31,7 @@ const PAST_NARROW: i64 = 2147483648;
 
 // A tie: the second record begins at least `least` and at most `most` rings after the first.
 #[repr(C)]
+#[derive(Clone, Copy)]
 pub struct Tie {
     pub first: u16,
     pub second: u16,
@@ -43,7 +43,7 @@ pub struct Tie {
 
 // 0 of the words of a register, and 16 of any others.
 fn open_number(state: &[u32]) -> u32
-    ensures { λ r. ⌜ inner.OpenNumber (now (state .entry)) r ⌝ }
+    ensures { inner.OpenNumber state.now result }
 {
     if register::is_register(state) {
         return 0;
@@ -53,14 +53,14 @@ fn open_number(state: &[u32]) -> u32
 
 // Whether a record is withdrawn, by its mark among the words of its register.
 fn is_withdrawn(state: &[u32], record: u16) -> bool
-    ensures { λ r. ⌜ r ≡ inner.isWithdrawnIn (now (state .entry)) «record» ⌝ }
+    ensures { result ≡ inner.is_withdrawn_in state.now «record» }
 {
     register::mark_in(state, record) == register::WITHDRAWN_MARK
 }
 
 // Of two numbers of causes the one that is looked for first; 0 is none.
 fn sooner(a: u32, b: u32) -> u32
-    ensures { λ r. ⌜ r ≡ inner.sooner a b ⌝ }
+    ensures { result ≡ inner.sooner a b }
 {
     if a == 0 {
         return b;
@@ -76,7 +76,7 @@ fn sooner(a: u32, b: u32) -> u32
 
 // The number against the base, and against more ties than there may be; 0 if there is none.
 fn base_number(n: u16, state: &[u32], base: u16, count: usize) -> u32
-    ensures { λ r. ⌜ r ≡ inner.baseNumber n (now (state .entry)) base count ⌝ }
+    ensures { result ≡ inner.base_number n state.now base count }
 {
     if n <= base {
         return book::NO_RECORD;
@@ -92,7 +92,7 @@ fn base_number(n: u16, state: &[u32], base: u16, count: usize) -> u32
 
 // The number against one tie; 0 if there is none.
 fn tie_number(n: u16, state: &[u32], first: u16, second: u16, least: i32, most: i32) -> u32
-    ensures { λ r. ⌜ r ≡ inner.tieNumber n (now (state .entry)) (record { first = first; second = second; least = least; most = most }) ⌝ }
+    ensures { result ≡ inner.tie_number n state.now (record { first = first; second = second; least = least; most = most }) }
 {
     if n <= first {
         return book::NO_RECORD;
@@ -120,7 +120,7 @@ fn tie_number(n: u16, state: &[u32], first: u16, second: u16, least: i32, most: 
 
 // The number so far, or that against one tie more if it is looked for sooner.
 fn judged(found: u32, state: &[u32], n: u16, first: u16, second: u16, least: i32, most: i32) -> u32
-    ensures { λ r. ⌜ r ≡ inner.judgeTie n (now (state .entry)) (record { first = first; second = second; least = least; most = most }) found ⌝ }
+    ensures { result ≡ inner.judge_tie n state.now (record { first = first; second = second; least = least; most = most }) found }
 {
     let number = tie_number(n, state, first, second, least, most);
     sooner(found, number)
@@ -128,7 +128,7 @@ fn judged(found: u32, state: &[u32], n: u16, first: u16, second: u16, least: i32
 
 // The number against the ties: of all of them that which is looked for first; 0 if there is none.
 fn judge(ties: &[Tie], state: &[u32], n: u16) -> u32
-    ensures { λ r. ⌜ r ≡ inner.judgeAll n (now (state .entry)) (now (ties .entry)) 0 ⌝ }
+    ensures { result ≡ inner.judge_all n state.now ties.now 0 }
 {
     let mut i = 0;
     let mut found = 0;
@@ -144,8 +144,8 @@ fn judge(ties: &[Tie], state: &[u32], n: u16) -> u32
 
 // One limit: record `to` lies at most `w` above record `from`. True where the distance was lowered, or `was`.
 fn lower(was: bool, from: usize, to: usize, w: i64, d: &mut [i64]) -> bool
-    requires { ⌜ mag w ≤ 2 ^ 31 ⌝ }
-    ensures { λ r. ⌜ (now (d .exit), r) ≡ spec.lower from to w (now (d .entry), was) ⌝ }
+    requires { mag w ≤ 2 ^ 31 }
+    ensures { (d.new, result) ≡ spec.lower from to w (d.old, was) }
 {
     if from >= d.len() {
         return was;
@@ -171,8 +171,8 @@ fn lower(was: bool, from: usize, to: usize, w: i64, d: &mut [i64]) -> bool
 
 // Both limits of a tie, for records that stand from place o on.
 fn third(was: bool, o: usize, a: usize, b: usize, up: i64, down: i64, d: &mut [i64]) -> bool
-    requires { ⌜ inner.ThirdAsked o a b up down ⌝ }
-    ensures { λ r. ⌜ (now (d .exit), r) ≡ spec.lower (o + b) (o + a) down (spec.lower (o + a) (o + b) up (now (d .entry), was)) ⌝ }
+    requires { inner.ThirdAsked o a b up down }
+    ensures { (d.new, result) ≡ spec.lower (o + b) (o + a) down (spec.lower (o + a) (o + b) up (d.old, was)) }
 {
     let x = o + a;
     let y = o + b;
@@ -182,7 +182,7 @@ fn third(was: bool, o: usize, a: usize, b: usize, up: i64, down: i64, d: &mut [i
 
 // Both limits of one tie in each of the three thirds of d, in the last one with its records exchanged.
 fn relax(was: bool, n: u16, first: u16, second: u16, least: i32, most: i32, d: &mut [i64]) -> bool
-    ensures { λ r. ⌜ (now (d .exit), r) ≡ spec.relaxed n first second least most (now (d .entry), was) ⌝ }
+    ensures { (d.new, result) ≡ spec.relaxed n first second least most (d.old, was) }
 {
     let a = first as usize;
     let b = second as usize;
@@ -197,7 +197,7 @@ fn relax(was: bool, n: u16, first: u16, second: u16, least: i32, most: i32, d: &
 
 // One pass: every tie in its order. True where some distance was lowered.
 fn pass(ties: &[Tie], n: u16, d: &mut [i64]) -> bool
-    ensures { λ r. ⌜ (now (d .exit), r) ≡ spec.relaxAll n (now (ties .entry)) (now (d .entry), false) ⌝ }
+    ensures { (d.new, result) ≡ spec.relax_all n ties.now (d.old, false) }
 {
     let mut i = 0;
     let mut changed = false;
@@ -211,7 +211,7 @@ fn pass(ties: &[Tie], n: u16, d: &mut [i64]) -> bool
 
 // How many passes are left after one of `left` that lowered something, or did not.
 fn left_after(on: bool, left: usize) -> usize
-    ensures { λ r. ⌜ r ≡ spec.leftAfter on left ⌝ }
+    ensures { result ≡ spec.left_after on left }
 {
     if on {
         if left > 0 {
@@ -223,7 +223,7 @@ fn left_after(on: bool, left: usize) -> usize
 
 // Passes until one lowers nothing, at most `rounds`. True where the last one lowered something.
 fn settle(ties: &[Tie], n: u16, rounds: usize, d: &mut [i64]) -> bool
-    ensures { λ r. ⌜ (now (d .exit), r) ≡ spec.settled n rounds (now (ties .entry)) (now (d .entry), false) ⌝ }
+    ensures { (d.new, result) ≡ spec.settled n rounds ties.now (d.old, false) }
 {
     let mut left = rounds;
     let mut on = false;
@@ -236,8 +236,8 @@ fn settle(ties: &[Tie], n: u16, rounds: usize, d: &mut [i64]) -> bool
 
 // The number at place i before the first pass.
 fn first_number(n: usize, base: usize, i: usize) -> i64
-    requires { ⌜ (n ≤ 2 ^ 20) × (base < n) ⌝ }
-    ensures { λ r. ⌜ r ≡ three.firstly n base i ⌝ }
+    requires { (n ≤ 2 ^ 20) × (base < n) }
+    ensures { result ≡ three.firstly n base i }
 {
     if i < n {
         return 0;
@@ -253,8 +253,8 @@ fn first_number(n: usize, base: usize, i: usize) -> i64
 
 // The list as it is before the first pass.
 fn fill(n: usize, base: usize, d: &mut [i64])
-    requires { ⌜ (length (now d) ≡ n * 3) × ((n ≤ 2 ^ 20) × (base < n)) ⌝ }
-    ensures { λ _. ⌜ three.Starts n base (now (d .exit)) ⌝ }
+    requires { (length d.old ≡ n * 3) × ((n ≤ 2 ^ 20) × (base < n)) }
+    ensures { three.Starts n base d.new }
 {
     let mut i = 0;
     while i < d.len() {
@@ -266,7 +266,7 @@ fn fill(n: usize, base: usize, d: &mut [i64])
 
 // A number of 64 bits as one of 32, if it is one.
 fn narrow(v: i64) -> i32
-    ensures { λ r. ⌜ (mag v < 2 ^ 31 → r ≡ v) ⌝ }
+    ensures { mag v < 2 ^ 31 → result ≡ v }
 {
     if v < LEAST_NARROW {
         return 0;
@@ -279,8 +279,8 @@ fn narrow(v: i64) -> i32
 
 // The first word of record x: the least, or 1 where it is free.
 fn least_word(n: usize, x: usize, d: &[i64]) -> i32
-    requires { ⌜ (n * 3 ≤ length (now d)) × ((n ≤ 2 ^ 20) × (x < n)) ⌝ }
-    ensures { λ r. ⌜ (mag (found.least-word n (now (d .entry)) x) < 2 ^ 31 → r ≡ found.least-word n (now (d .entry)) x) ⌝ }
+    requires { (n * 3 ≤ length d.now) × ((n ≤ 2 ^ 20) × (x < n)) }
+    ensures { mag (found.least-word n d.now x) < 2 ^ 31 → result ≡ found.least-word n d.now x }
 {
     let a = d[n + x];
     if a < LOW {
@@ -302,8 +302,8 @@ fn least_word(n: usize, x: usize, d: &[i64]) -> i32
 
 // The second word of record x: the most, or 0 where it is free.
 fn most_word(n: usize, x: usize, d: &[i64]) -> i32
-    requires { ⌜ (n * 3 ≤ length (now d)) × ((n ≤ 2 ^ 20) × (x < n)) ⌝ }
-    ensures { λ r. ⌜ (mag (found.most-word n (now (d .entry)) x) < 2 ^ 31 → r ≡ found.most-word n (now (d .entry)) x) ⌝ }
+    requires { (n * 3 ≤ length d.now) × ((n ≤ 2 ^ 20) × (x < n)) }
+    ensures { mag (found.most-word n d.now x) < 2 ^ 31 → result ≡ found.most-word n d.now x }
 {
     let a = d[n + x];
     if a < LOW {
@@ -317,9 +317,9 @@ fn most_word(n: usize, x: usize, d: &[i64]) -> i32
 
 // The two words of each record below n, where they fit 32 bits.
 fn tell(n: usize, d: &[i64], list: &mut [i32])
-    requires { ⌜ (n * 3 ≤ length (now d)) × ((n ≤ 2 ^ 20) × (n * 2 ≤ length (now list))) ⌝ }
-    ensures { λ _. ⌜ (found.Fits n (now (d .entry)) → found.Told n (now (d .entry)) n (now (list .exit)))
-        × (drop (n * 2) (now (list .exit)) ≡ drop (n * 2) (now (list .entry))) ⌝ }
+    requires { (n * 3 ≤ length d.now) × ((n ≤ 2 ^ 20) × (n * 2 ≤ length list.old)) }
+    ensures { (found.Fits n d.now → found.Told n d.now n list.new)
+        × (drop (n * 2) list.new ≡ drop (n * 2) list.old) }
 {
     let mut x = 0;
     while x < n {
@@ -336,7 +336,7 @@ fn tell(n: usize, d: &[i64], list: &mut [i32])
 
 // The number of the cause against the passes; if there is none, 0, and the work filled for the first of them.
 fn begin(state: &[u32], n: u16, base: u16, found: u32, count: usize, work: &mut [i64]) -> u32
-    ensures { λ r. ⌜ inner.Begins (now (state .entry)) n base found count (now (work .entry)) (now (work .exit)) r ⌝ }
+    ensures { inner.Begins state.now n base found count work.old work.new result }
 {
     let refused = open_number(state);
     let own = base_number(n, state, base, count);
@@ -357,7 +357,7 @@ fn begin(state: &[u32], n: u16, base: u16, found: u32, count: usize, work: &mut 
 
 // How many passes there may be.
 fn rounds_of(cause: u32, n: u16) -> usize
-    ensures { λ r. ⌜ r ≡ inner.roundsOf cause n ⌝ }
+    ensures { result ≡ inner.rounds_of cause n }
 {
     if cause != 0 {
         return 0;
@@ -367,7 +367,7 @@ fn rounds_of(cause: u32, n: u16) -> usize
 
 // The answer after the passes, told as 64 bits, and the words of the list if there are limits. The work is taken as it was lent, and read.
 fn tell_limits(cause: u32, n: u16, on: bool, work: &mut [i64], list: &mut [i32]) -> u64
-    ensures { λ r. ⌜ inner.TellsOver cause n on (now (work .entry)) (now (list .entry)) (now (list .exit)) r ⌝ }
+    ensures { inner.TellsOver cause n on work.old list.old list.new result }
 {
     if cause != 0 {
         return answers::told_refusal(cause);
@@ -389,7 +389,7 @@ fn tell_limits(cause: u32, n: u16, on: bool, work: &mut [i64], list: &mut [i32])
 // The narrowest limits of how many rings each record of a register, kept as words, begins after the base: two words to a record, least and most, or 1 and 0
 // for a free one. Told as 64 bits: the words written, 2^32 if no placing meets all ties, 2^33 and the number of the cause for a refusal.
 pub fn offsets(state: &[u32], base: u16, ties: &[Tie], work: &mut [i64], list: &mut [i32]) -> u64
-    ensures { λ k. ⌜ OffsetsTold (now (state .entry)) base (now (ties .entry)) (length (now (work .entry))) (now (list .entry)) (now (list .exit)) k ⌝ }
+    ensures { OffsetsTold state.now base ties.now (length work.old) list.old list.new result }
 {
     let n = register::size_in(state);
     let found = judge(ties, state, n);

@@ -1,56 +1,56 @@
 -- Laws of `children`, `leaves` and `load`: a square's quarters, one after another.
---   inside-in, inside-by, inside-out
+--   inside_in, inside_by, inside_out
 --                  a cell within a square of a set, and outside it
---   four-quarters, quarters-all, quarters-more, quarters-empty, quarters-none
+--   four_quarters, quarters_all, quarters_more, quarters_empty, quarters_none
 --                  a square from its quarters: all four, one more, an empty one, none yet
---   turned-lt, reads-bit, reads-child, reads-empty, reads-cell
+--   turned_lt, reads_bit, reads_child, reads_empty, reads_cell
 --                  a square read with a sense: the bit of a quarter, its own square, an empty quarter, a cell of a square of side 2
---   reads-tree, inside-all
+--   reads_tree, inside_all
 --                  a whole tree is read, and its square is the set
---   four-cells     the four cells of a square of side 2, put into rows
---   square-plain, square-turned
+--   four_cells     the four cells of a square of side 2, put into rows
+--   square_plain, square_turned
 --                  `square`: four bits as a number, read with either sense
---   descend-child, descend-all, descend-gap
+--   descend_child, descend_all, descend_gap
 --                  one level down: a quarter that is not empty, all four, some that are empty
---   quarter-in, one-le, quarter-even, half-law
+--   quarter_in, one-le, quarter_even, half_law
 --                  a quarter fits where its square does, and begins at an even place
---   next-le, next-clear, next-set
+--   next_le, next_clear, next_set
 --                  the next one of a number below 16 from place q on
 -- Assumes nothing.
-use mathlib.Core.Path.{_≡_, refl, sym, ap, ap₂, _∙_, fun-ext}
+use mathlib.Core.Path.{◌≡◌, refl, sym, ap, ap₂, ◌∙◌, fun_ext}
 use mathlib.Core.List.{List}
-use Prim.Native.Nat.{ℕ, zero, suc, _+_, _-_, _*_, _/_, _%_, _^_, _≤_, _<_, max}
-use native.Mathlib.Nat.{pow-suc, lt-of-le-of-lt, div-le-self}
+use Prim.Native.Nat.{ℕ, zero, suc, ◌+◌, ◌-◌, ◌*◌, ◌/◌, ◌%◌, ◌^◌, ◌≤◌, ◌<◌, max}
+use native.Mathlib.Nat.{pow-suc, lt_of_le_of_lt, div-le_self}
 use native.Mathlib.Numerals.{add-one}
-use native.Mathlib.Decide.{decLt, ℕ-discrete}
+use native.Mathlib.Decide.{dec_lt, ℕ_discrete}
 use native.Mathlib.Omega.{arith}
-use lib.Count.{trailingZeros}
+use lib.Count.{count_trailing_zeros}
 use borrow.Author.Tests.{le-leb, lt-leb, lt-ltb, le-ltb}
-use Rattle·k2.specs.Bits.{digit, bitAt, bitsOf}
-use Rattle·k2.specs.BitLaws.{Bits}
-use Rattle·k2.specs.PairSets.{Cells, IsSet, union, transpose}
-use Rattle·k2.specs.Trees.{quadrant, filled, treeBits, treeWords, height, childPlace}
-use Rattle·k2.specs.Nodes.{root, child, exchanged}
-use Rattle·k2.specs.NodeLaws.{empty-cell, node-bit}
-use Rattle·k2.specs.TreeLaws.{treeWords-bits, quadrant-transpose, filled-transpose}
-use Rattle·k2.specs.DigitLaws.{shifted, digit-add, digit-big}
-use Rattle·k2.specs.WordLaws.{digit-mod, shifted-in, shifted-out, trailing-set, trailing-clear}
-use Rattle·bits.specs.BitSets.{either, fourAt}
-use Rattle·rows.specs.Rows.{flat}
-use Rattle·rows.specs.RowSets.{noPairs}
-use Rattle·packing·specs.specs.Reading.{turnedBy, turned, inside, quartersTo, Reads}
+use Rattle.k2.specs.Bits.{digit, bit_at, bits_of}
+use Rattle.k2.specs.BitLaws.{Bits}
+use Rattle.k2.specs.PairSets.{Cells, IsSet, union, transpose}
+use Rattle.k2.specs.Trees.{quadrant, filled, tree_bits, tree_words, height, child_place}
+use Rattle.k2.specs.Nodes.{root, child, exchanged}
+use Rattle.k2.specs.NodeLaws.{empty_cell, node_bit}
+use Rattle.k2.specs.TreeLaws.{tree_words_bits, quadrant_transpose, filled_transpose}
+use Rattle.k2.specs.DigitLaws.{shifted, digit_add, digit_big}
+use Rattle.k2.specs.WordLaws.{digit_mod, shifted_in, shifted_out, trailing_set, trailing_clear}
+use Rattle.bits.specs.BitSets.{either, four_at}
+use Rattle.rows.specs.Rows.{flat}
+use Rattle.rows.specs.RowSets.{no_pairs}
+use Rattle.packing.specs.Reading.{turned_by, turned, inside, quarters_to, Reads}
 
 -- ---- squares of a set
 module _ (h x y : ℕ) (a : Cells) (i j : ℕ) where
-  pub inside-in : x ≤ i → i < x + 2 ^ h → y ≤ j → j < y + 2 ^ h → inside h x y a i j ≡ a i j
+  pub inside_in : x ≤ i → i < x + 2 ^ h → y ≤ j → j < y + 2 ^ h → inside h x y a i j ≡ a i j
   unfolding inside
-  inside-in p q r s = rw (le-leb x i p, lt-ltb i (x + 2 ^ h) q, le-leb y j r, lt-ltb j (y + 2 ^ h) s)
+  inside_in p q r s = rw (le-leb x i p, lt-ltb i (x + 2 ^ h) q, le-leb y j r, lt-ltb j (y + 2 ^ h) s)
 
   -- in it or not
-  pub inside-by : {B : Type 0} → (x ≤ i → i < x + 2 ^ h → y ≤ j → j < y + 2 ^ h → B)
+  pub inside_by : {B : Type 0} → (x ≤ i → i < x + 2 ^ h → y ≤ j → j < y + 2 ^ h → B)
       → (inside h x y a i j ≡ 0 → (x ≤ i → i < x + 2 ^ h → y ≤ j → j < y + 2 ^ h → ⊥) → B) → B
   unfolding inside
-  inside-by {B} f n = go (decLt i x) (decLt i (x + 2 ^ h)) (decLt j y) (decLt j (y + 2 ^ h))
+  inside_by {B} f n = go (dec_lt i x) (dec_lt i (x + 2 ^ h)) (dec_lt j y) (dec_lt j (y + 2 ^ h))
     where
       go : Dec (i < x) → Dec (i < x + 2 ^ h) → Dec (j < y) → Dec (j < y + 2 ^ h) → B
       go (yes p) q r s = n (rw (lt-leb x i p)) (λ a b c d. omega arith)
@@ -60,8 +60,8 @@ module _ (h x y : ℕ) (a : Cells) (i j : ℕ) where
           n (rw (le-leb x i (omega arith), lt-ltb i (x + 2 ^ h) q, le-leb y j (omega arith), le-ltb j (y + 2 ^ h) (omega arith))) (λ a b c d. omega arith)
       go (no p) (yes q) (no r) (yes s) = f (omega arith) q (omega arith) s
 
-  pub inside-out : (x ≤ i → i < x + 2 ^ h → y ≤ j → j < y + 2 ^ h → ⊥) → inside h x y a i j ≡ 0
-  inside-out n = inside-by (λ p q r s. absurd (n p q r s)) (λ e m. e)
+  pub inside_out : (x ≤ i → i < x + 2 ^ h → y ≤ j → j < y + 2 ^ h → ⊥) → inside h x y a i j ≡ 0
+  inside_out n = inside_by (λ p q r s. absurd (n p q r s)) (λ e m. e)
 
 -- all four quarters
 module _ (h x y : ℕ) (a : Cells) (i j : ℕ) where
@@ -75,10 +75,10 @@ module _ (h x y : ℕ) (a : Cells) (i j : ℕ) where
   abbrev quarter : ℕ → ℕ → ℕ
   quarter u v = inside h (x + u * s) (y + v * s) a i j
 
-  pub four-quarters : max (max (max (max 0 (quarter 0 0)) (quarter 0 1)) (quarter 1 0)) (quarter 1 1) ≡ inside (suc h) x y a i j
-  four-quarters =
-      inside-by (suc h) x y a i j
-      (λ p q r t. within p (omega (arith, two)) r (omega (arith, two)) (decLt i (x + s)) (decLt j (y + s)) ∙ sym (inside-in (suc h) x y a i j p q r t))
+  pub four_quarters : max (max (max (max 0 (quarter 0 0)) (quarter 0 1)) (quarter 1 0)) (quarter 1 1) ≡ inside (suc h) x y a i j
+  four_quarters =
+      inside_by (suc h) x y a i j
+      (λ p q r t. within p (omega (arith, two)) r (omega (arith, two)) (dec_lt i (x + s)) (dec_lt j (y + s)) ∙ sym (inside_in (suc h) x y a i j p q r t))
       (λ e n. rw e
       (omega (
         arith,
@@ -89,10 +89,10 @@ module _ (h x y : ℕ) (a : Cells) (i j : ℕ) where
       )))
     where
       out : (u v : ℕ) → (x + u * s ≤ i → i < x + u * s + s → y + v * s ≤ j → j < y + v * s + s → ⊥) → quarter u v ≡ 0
-      out u v n = inside-out h (x + u * s) (y + v * s) a i j n
+      out u v n = inside_out h (x + u * s) (y + v * s) a i j n
 
       hit : (u v : ℕ) → x + u * s ≤ i → i < x + u * s + s → y + v * s ≤ j → j < y + v * s + s → quarter u v ≡ a i j
-      hit u v p q r t = inside-in h (x + u * s) (y + v * s) a i j p q r t
+      hit u v p q r t = inside_in h (x + u * s) (y + v * s) a i j p q r t
 
       within : x ≤ i → i < x + (s + s) → y ≤ j → j < y + (s + s) → Dec (i < x + s) → Dec (j < y + s)
           → max (max (max (max 0 (quarter 0 0)) (quarter 0 1)) (quarter 1 0)) (quarter 1 1) ≡ a i j
@@ -129,21 +129,21 @@ module _ (h x y : ℕ) (a : Cells) (i j : ℕ) where
             out 1 0 (λ b c d e. omega arith),
           )
 
-pub quarters-all : (h x y : ℕ) (a : Cells) → quartersTo 4 h x y a ≡ inside (suc h) x y a
-unfolding quartersTo union noPairs
-quarters-all h x y a = fun-ext (λ i. fun-ext (λ j. four-quarters h x y a i j))
+pub quarters_all : (h x y : ℕ) (a : Cells) → quarters_to 4 h x y a ≡ inside (suc h) x y a
+unfolding quarters_to union no_pairs
+quarters_all h x y a = fun_ext (λ i. fun_ext (λ j. four_quarters h x y a i j))
 
 -- one quarter more
-pub quarters-more : (k h x y : ℕ) (a b : Cells)
-    → union (union b (quartersTo k h x y a)) (inside h (x + k / 2 * 2 ^ h) (y + k % 2 * 2 ^ h) a) ≡ union b (quartersTo (k + 1) h x y a)
-unfolding quartersTo union
-quarters-more k h x y a b = rw add-one (fun-ext (λ i. fun-ext (λ j. omega arith)))
+pub quarters_more : (k h x y : ℕ) (a b : Cells)
+    → union (union b (quarters_to k h x y a)) (inside h (x + k / 2 * 2 ^ h) (y + k % 2 * 2 ^ h) a) ≡ union b (quarters_to (k + 1) h x y a)
+unfolding quarters_to union
+quarters_more k h x y a b = rw add-one (fun_ext (λ i. fun_ext (λ j. omega arith)))
 
 -- an empty one
-pub quarters-empty : (k h x y : ℕ) (a b : Cells) → ((i j : ℕ) → i < 2 ^ h → j < 2 ^ h → a (x + k / 2 * 2 ^ h + i) (y + k % 2 * 2 ^ h + j) ≡ 0)
-    → union b (quartersTo k h x y a) ≡ union b (quartersTo (k + 1) h x y a)
+pub quarters_empty : (k h x y : ℕ) (a b : Cells) → ((i j : ℕ) → i < 2 ^ h → j < 2 ^ h → a (x + k / 2 * 2 ^ h + i) (y + k % 2 * 2 ^ h + j) ≡ 0)
+    → union b (quarters_to k h x y a) ≡ union b (quarters_to (k + 1) h x y a)
 unfolding union
-quarters-empty k h x y a b z = fun-ext (λ i. fun-ext (λ j. same i j)) ∙ quarters-more k h x y a b
+quarters_empty k h x y a b z = fun_ext (λ i. fun_ext (λ j. same i j)) ∙ quarters_more k h x y a b
   where
     X : ℕ
     X = x + k / 2 * 2 ^ h
@@ -153,38 +153,38 @@ quarters-empty k h x y a b z = fun-ext (λ i. fun-ext (λ j. same i j)) ∙ quar
 
     none : (i j : ℕ) → inside h X Y a i j ≡ 0
     none i j =
-        inside-by h X Y a i j
+        inside_by h X Y a i j
         (λ p q r t.
         let u : i ≡ X + (i - X) = omega arith in
         let v : j ≡ Y + (j - Y) = omega arith in
-        inside-in h X Y a i j p q r t ∙ ap₂ a u v ∙ z (i - X) (j - Y) (omega arith) (omega arith))
+        inside_in h X Y a i j p q r t ∙ ap₂ a u v ∙ z (i - X) (j - Y) (omega arith) (omega arith))
         (λ e n. e)
 
-    same : (i j : ℕ) → max (b i j) (quartersTo k h x y a i j) ≡ max (max (b i j) (quartersTo k h x y a i j)) (inside h X Y a i j)
+    same : (i j : ℕ) → max (b i j) (quarters_to k h x y a i j) ≡ max (max (b i j) (quarters_to k h x y a i j)) (inside h X Y a i j)
     same i j = omega (arith, none i j)
 
-pub quarters-none : (h x y : ℕ) (a b : Cells) → b ≡ union b (quartersTo 0 h x y a)
-unfolding quartersTo union noPairs
-quarters-none h x y a b = fun-ext (λ i. fun-ext (λ j. omega arith))
+pub quarters_none : (h x y : ℕ) (a b : Cells) → b ≡ union b (quarters_to 0 h x y a)
+unfolding quarters_to union no_pairs
+quarters_none h x y a b = fun_ext (λ i. fun_ext (λ j. omega arith))
 
 -- ---- reading with a sense
-turnedBy-quadrant : (s h q : ℕ) (a : Cells) → q < 4 → turnedBy s (quadrant h (turned s q) a) ≡ quadrant h q (turnedBy s a)
-turnedBy-quadrant zero h q a l = refl
-turnedBy-quadrant (suc s) h q a l =
+turned_by_quadrant : (s h q : ℕ) (a : Cells) → q < 4 → turned_by s (quadrant h (turned s q) a) ≡ quadrant h q (turned_by s a)
+turned_by_quadrant zero h q a l = refl
+turned_by_quadrant (suc s) h q a l =
     let e : exchanged (exchanged q) ≡ q = omega arith in
-    sym (quadrant-transpose h (exchanged q) a (omega arith)) ∙ ap (λ (p : ℕ). quadrant h p (transpose a)) e
+    sym (quadrant_transpose h (exchanged q) a (omega arith)) ∙ ap (λ (p : ℕ). quadrant h p (transpose a)) e
 
-turnedBy-bit : (s : ℕ) (a : Cells) → ((i j : ℕ) → a i j < 2) → (i j : ℕ) → turnedBy s a i j < 2
-turnedBy-bit zero a b i j = b i j
-turnedBy-bit (suc s) a b i j = unfold transpose in (b j i)
+turned_by_bit : (s : ℕ) (a : Cells) → ((i j : ℕ) → a i j < 2) → (i j : ℕ) → turned_by s a i j < 2
+turned_by_bit zero a b i j = b i j
+turned_by_bit (suc s) a b i j = unfold transpose in (b j i)
 
-pub turned-lt : (s q : ℕ) → q < 4 → turned s q < 4
-turned-lt zero q l = l
-turned-lt (suc s) q l = omega arith
+pub turned_lt : (s q : ℕ) → q < 4 → turned s q < 4
+turned_lt zero q l = l
+turned_lt (suc s) q l = omega arith
 
-filled-turnedBy : (s h : ℕ) (a : Cells) → filled h (turnedBy s a) ≡ filled h a
-filled-turnedBy zero h a = refl
-filled-turnedBy (suc s) h a = filled-transpose h a
+filled_turned_by : (s h : ℕ) (a : Cells) → filled h (turned_by s a) ≡ filled h a
+filled_turned_by zero h a = refl
+filled_turned_by (suc s) h a = filled_transpose h a
 
 -- quarter q of a square that is read
 module _ (s : ℕ) (ws : List ℕ) (h b x y : ℕ) (a : Cells) (n : Reads s ws (suc h) b x y a) (q : ℕ) (ql : q < 4) where
@@ -192,13 +192,13 @@ module _ (s : ℕ) (ws : List ℕ) (h b x y : ℕ) (a : Cells) (n : Reads s ws (
   e = turned s q
 
   abbrev Q : Cells
-  Q = quadrant h e (n .square)
+  Q = quadrant h e n.square
 
   -- its cells are those of a
-  quarter-cell : (i j : ℕ) → i < 2 ^ h → j < 2 ^ h → turnedBy s Q i j ≡ a (x + q / 2 * 2 ^ h + i) (y + q % 2 * 2 ^ h + j)
-  quarter-cell i j hi hj =
-      ap (λ (c : Cells). c i j) (turnedBy-quadrant s h q (n .square) ql)
-      ∙ unfold quadrant in (n .cells (q / 2 * 2 ^ h + i) (q % 2 * 2 ^ h + j) (fits (q / 2) i hi (omega arith)) (fits (q % 2) j hj (omega arith))
+  quarter_cell : (i j : ℕ) → i < 2 ^ h → j < 2 ^ h → turned_by s Q i j ≡ a (x + q / 2 * 2 ^ h + i) (y + q % 2 * 2 ^ h + j)
+  quarter_cell i j hi hj =
+      ap (λ (c : Cells). c i j) (turned_by_quadrant s h q n.square ql)
+      ∙ unfold quadrant in (n.cells (q / 2 * 2 ^ h + i) (q % 2 * 2 ^ h + j) (fits (q / 2) i hi (omega arith)) (fits (q % 2) j hj (omega arith))
       ∙ ap₂ a (omega arith) (omega arith))
     where
       fits : (u i : ℕ) → i < 2 ^ h → u < 2 → u * 2 ^ h + i < 2 ^ suc h
@@ -207,66 +207,66 @@ module _ (s : ℕ) (ws : List ℕ) (h b x y : ℕ) (a : Cells) (n : Reads s ws (
       fits (suc (suc u)) i l g = absurd (omega arith)
 
   -- its bit
-  pub reads-bit : bitAt ws (b + e) ≡ filled h Q
-  reads-bit = node-bit (n .bits) (n .node) e (turned-lt s q ql)
+  pub reads_bit : bit_at ws (b + e) ≡ filled h Q
+  reads_bit = node_bit n.bits n.node e (turned_lt s q ql)
 
-  pub reads-child : bitAt ws (b + e) ≡ 1 → Reads s ws h (childPlace (bitAt ws) (b + e)) (x + q / 2 * 2 ^ h) (y + q % 2 * 2 ^ h) a
-  reads-child o =
+  pub reads_child : bit_at ws (b + e) ≡ 1 → Reads s ws h (child_place (bit_at ws) (b + e)) (x + q / 2 * 2 ^ h) (y + q % 2 * 2 ^ h) a
+  reads_child o =
       record {
-        side = n .side;
-        whole = n .whole;
+        side = n.side;
+        whole = n.whole;
         square = Q;
-        bits = n .bits;
-        node = child e (n .node) (turned-lt s q ql) o;
-        bit = λ i j. unfold quadrant in (n .bit (e / 2 * 2 ^ h + i) (e % 2 * 2 ^ h + j));
-        cells = quarter-cell;
+        bits = n.bits;
+        node = child e n.node (turned_lt s q ql) o;
+        bit = λ i j. unfold quadrant in (n.bit (e / 2 * 2 ^ h + i) (e % 2 * 2 ^ h + j));
+        cells = quarter_cell;
       }
 
-  pub reads-empty : bitAt ws (b + e) ≡ 0 → (i j : ℕ) → i < 2 ^ h → j < 2 ^ h → a (x + q / 2 * 2 ^ h + i) (y + q % 2 * 2 ^ h + j) ≡ 0
-  reads-empty o i j hi hj = sym (quarter-cell i j hi hj) ∙ empty-cell h (turnedBy s Q) i j hi hj (filled-turnedBy s h Q ∙ sym reads-bit ∙ o)
+  pub reads_empty : bit_at ws (b + e) ≡ 0 → (i j : ℕ) → i < 2 ^ h → j < 2 ^ h → a (x + q / 2 * 2 ^ h + i) (y + q % 2 * 2 ^ h + j) ≡ 0
+  reads_empty o i j hi hj = sym (quarter_cell i j hi hj) ∙ empty_cell h (turned_by s Q) i j hi hj (filled_turned_by s h Q ∙ sym reads_bit ∙ o)
 
 -- the cells of a square of side 2
-pub reads-cell : (s : ℕ) (ws : List ℕ) (b x y : ℕ) (a : Cells) → Reads s ws 1 b x y a → (q : ℕ) → q < 4 → bitAt ws (b + turned s q) ≡ a (x + q / 2) (y + q % 2)
+pub reads_cell : (s : ℕ) (ws : List ℕ) (b x y : ℕ) (a : Cells) → Reads s ws 1 b x y a → (q : ℕ) → q < 4 → bit_at ws (b + turned s q) ≡ a (x + q / 2) (y + q % 2)
 unfolding filled
-reads-cell s ws b x y a n q l =
-    let Q : Cells = quadrant 0 (turned s q) (n .square) in
-    let c : turnedBy s Q 0 0 ≡ a (x + q / 2) (y + q % 2) =
-    quarter-cell s ws 0 b x y a n q l 0 0 (omega arith) (omega arith) ∙ ap₂ a (omega arith) (omega arith) in
-    let z : turnedBy s Q 0 0 < 2 = turnedBy-bit s Q (λ i j. unfold quadrant in (n .bit _ _)) 0 0 in
-    reads-bit s ws 0 b x y a n q l ∙ sym (filled-turnedBy s 0 Q) ∙ omega arith
+reads_cell s ws b x y a n q l =
+    let Q : Cells = quadrant 0 (turned s q) n.square in
+    let c : turned_by s Q 0 0 ≡ a (x + q / 2) (y + q % 2) =
+    quarter_cell s ws 0 b x y a n q l 0 0 (omega arith) (omega arith) ∙ ap₂ a (omega arith) (omega arith) in
+    let z : turned_by s Q 0 0 < 2 = turned_by_bit s Q (λ i j. unfold quadrant in (n.bit _ _)) 0 0 in
+    reads_bit s ws 0 b x y a n q l ∙ sym (filled_turned_by s 0 Q) ∙ omega arith
 
 -- ---- a whole tree
-pub reads-tree : (s n h : ℕ) (ws : List ℕ) (a : Cells) → h ≡ height n → IsSet n a → ws ≡ treeWords n a → Reads s ws h 0 0 0 (turnedBy s a)
-reads-tree s n h ws a eh is e =
+pub reads_tree : (s n h : ℕ) (ws : List ℕ) (a : Cells) → h ≡ height n → IsSet n a → ws ≡ tree_words n a → Reads s ws h 0 0 0 (turned_by s a)
+reads_tree s n h ws a eh is e =
     record {
       side = h;
       whole = a;
       square = a;
-      bits = ap bitAt e ∙ treeWords-bits n a ∙ ap (λ (k : ℕ). bitsOf (treeBits k a)) (sym eh);
+      bits = ap bit_at e ∙ tree_words_bits n a ∙ ap (λ (k : ℕ). bits_of (tree_bits k a)) (sym eh);
       node = root;
-      bit = is .bit;
-      cells = λ i j hi hj. ap₂ (turnedBy s a) (omega arith) (omega arith);
+      bit = is.bit;
+      cells = λ i j hi hj. ap₂ (turned_by s a) (omega arith) (omega arith);
     }
 
-pub inside-all : (n h : ℕ) (a : Cells) → n ≤ 2 ^ h → IsSet n a → inside h 0 0 a ≡ a
-inside-all n h a l is = fun-ext (λ i. fun-ext (λ j. inside-by h 0 0 a i j
-    (λ p q r s. inside-in h 0 0 a i j p q r s)
-    (λ e m. e ∙ sym (off i j m (decLt i n) (decLt j n)))))
+pub inside_all : (n h : ℕ) (a : Cells) → n ≤ 2 ^ h → IsSet n a → inside h 0 0 a ≡ a
+inside_all n h a l is = fun_ext (λ i. fun_ext (λ j. inside_by h 0 0 a i j
+    (λ p q r s. inside_in h 0 0 a i j p q r s)
+    (λ e m. e ∙ sym (off i j m (dec_lt i n) (dec_lt j n)))))
   where
     off : (i j : ℕ) → (0 ≤ i → i < 0 + 2 ^ h → 0 ≤ j → j < 0 + 2 ^ h → ⊥) → Dec (i < n) → Dec (j < n) → a i j ≡ 0
-    off i j m (no p) q = is .row i j (omega arith)
-    off i j m (yes p) (no q) = is .column i j (omega arith)
+    off i j m (no p) q = is.row i j (omega arith)
+    off i j m (yes p) (no q) = is.column i j (omega arith)
     off i j m (yes p) (yes q) = absurd (m (omega arith) (omega arith) (omega arith) (omega arith))
 
 -- ---- the four cells of a square of side 2, put into rows
 -- two digits from place b on
-two-off : (b u p : ℕ) → u < 2 ^ 2 → (b ≤ p → p < b + 2 → ⊥) → shifted b u p ≡ 0
-two-off b u p l n = go (decLt p b) (decLt p (b + 2))
+two_off : (b u p : ℕ) → u < 2 ^ 2 → (b ≤ p → p < b + 2 → ⊥) → shifted b u p ≡ 0
+two_off b u p l n = go (dec_lt p b) (dec_lt p (b + 2))
   where
     go : Dec (p < b) → Dec (p < b + 2) → shifted b u p ≡ 0
-    go (yes k) d = shifted-out b u p k
+    go (yes k) d = shifted_out b u p k
     go (no k) (yes d) = absurd (n (omega arith) d)
-    go (no k) (no d) = shifted-in b u p (omega arith) ∙ digit-big 2 (p - b) u l (omega arith)
+    go (no k) (no d) = shifted_in b u p (omega arith) ∙ digit_big 2 (p - b) u l (omega arith)
 
 module _ (x : Cells) (r c v : ℕ) (t : Cells) (cl : c + 2 ≤ 1024) (vl : v < 16) (digits : (q : ℕ) → q < 4 → digit v q ≡ t (r + q / 2) (c + q % 2)) where
   abbrev upper : ℕ → ℕ
@@ -275,52 +275,52 @@ module _ (x : Cells) (r c v : ℕ) (t : Cells) (cl : c + 2 ≤ 1024) (vl : v < 1
   abbrev lower : ℕ → ℕ
   lower = shifted ((r + 1) * 1024 + c) (v / 4)
 
-  upper-in : (p : ℕ) → p / 1024 ≡ r → c ≤ p % 1024 → p % 1024 < c + 2 → upper p ≡ t (p / 1024) (p % 1024)
-  upper-in p e l h =
+  upper_in : (p : ℕ) → p / 1024 ≡ r → c ≤ p % 1024 → p % 1024 < c + 2 → upper p ≡ t (p / 1024) (p % 1024)
+  upper_in p e l h =
       let k : p - (r * 1024 + c) ≡ p % 1024 - c = omega arith in
-      shifted-in (r * 1024 + c) (v % 4) p (omega arith) ∙ ap (digit (v % 4)) k
-      ∙ digit-mod 2 v (p % 1024 - c) (omega arith) ∙ digits (p % 1024 - c) (omega arith)
+      shifted_in (r * 1024 + c) (v % 4) p (omega arith) ∙ ap (digit (v % 4)) k
+      ∙ digit_mod 2 v (p % 1024 - c) (omega arith) ∙ digits (p % 1024 - c) (omega arith)
       ∙ ap₂ t (omega arith) (omega arith)
 
-  lower-in : (p : ℕ) → p / 1024 ≡ r + 1 → c ≤ p % 1024 → p % 1024 < c + 2 → lower p ≡ t (p / 1024) (p % 1024)
-  lower-in p e l h =
+  lower_in : (p : ℕ) → p / 1024 ≡ r + 1 → c ≤ p % 1024 → p % 1024 < c + 2 → lower p ≡ t (p / 1024) (p % 1024)
+  lower_in p e l h =
       let k : p - ((r + 1) * 1024 + c) ≡ p % 1024 - c = omega arith in
-      shifted-in ((r + 1) * 1024 + c) (v / 4) p (omega arith) ∙ ap (digit (v / 4)) k
-      ∙ sym (digit-add v 2 (p % 1024 - c)) ∙ digits (2 + (p % 1024 - c)) (omega arith)
+      shifted_in ((r + 1) * 1024 + c) (v / 4) p (omega arith) ∙ ap (digit (v / 4)) k
+      ∙ sym (digit_add v 2 (p % 1024 - c)) ∙ digits (2 + (p % 1024 - c)) (omega arith)
       ∙ ap₂ t (omega arith) (omega arith)
 
-  upper-off : (p : ℕ) → (p / 1024 ≡ r → c ≤ p % 1024 → p % 1024 < c + 2 → ⊥) → upper p ≡ 0
-  upper-off p n = two-off (r * 1024 + c) (v % 4) p (omega arith) (λ a b. n (omega arith) (omega arith) (omega arith))
+  upper_off : (p : ℕ) → (p / 1024 ≡ r → c ≤ p % 1024 → p % 1024 < c + 2 → ⊥) → upper p ≡ 0
+  upper_off p n = two_off (r * 1024 + c) (v % 4) p (omega arith) (λ a b. n (omega arith) (omega arith) (omega arith))
 
-  lower-off : (p : ℕ) → (p / 1024 ≡ r + 1 → c ≤ p % 1024 → p % 1024 < c + 2 → ⊥) → lower p ≡ 0
-  lower-off p n = two-off ((r + 1) * 1024 + c) (v / 4) p (omega arith) (λ a b. n (omega arith) (omega arith) (omega arith))
+  lower_off : (p : ℕ) → (p / 1024 ≡ r + 1 → c ≤ p % 1024 → p % 1024 < c + 2 → ⊥) → lower p ≡ 0
+  lower_off p n = two_off ((r + 1) * 1024 + c) (v / 4) p (omega arith) (λ a b. n (omega arith) (omega arith) (omega arith))
 
-  pub four-cells : either (either (flat x) upper) lower ≡ flat (union x (inside 1 r c t))
+  pub four_cells : either (either (flat x) upper) lower ≡ flat (union x (inside 1 r c t))
   unfolding either flat union
-  four-cells = fun-ext (λ p. inside-by 1 r c t (p / 1024) (p % 1024)
-      (λ a b d e. hit p a b d e (ℕ-discrete (p / 1024) r) ∙ ap (max (x (p / 1024) (p % 1024))) (sym (inside-in 1 r c t (p / 1024) (p % 1024) a b d e)))
-      (λ z n. rw (z, upper-off p (λ a d e. n (omega arith) (omega arith) d e), lower-off p (λ a d e. n (omega arith) (omega arith) d e)) (omega arith)))
+  four_cells = fun_ext (λ p. inside_by 1 r c t (p / 1024) (p % 1024)
+      (λ a b d e. hit p a b d e (ℕ_discrete (p / 1024) r) ∙ ap (max (x (p / 1024) (p % 1024))) (sym (inside_in 1 r c t (p / 1024) (p % 1024) a b d e)))
+      (λ z n. rw (z, upper_off p (λ a d e. n (omega arith) (omega arith) d e), lower_off p (λ a d e. n (omega arith) (omega arith) d e)) (omega arith)))
     where
       hit : (p : ℕ) → r ≤ p / 1024 → p / 1024 < r + 2 → c ≤ p % 1024 → p % 1024 < c + 2 → Dec (p / 1024 ≡ r)
           → max (max (x (p / 1024) (p % 1024)) (upper p)) (lower p) ≡ max (x (p / 1024) (p % 1024)) (t (p / 1024) (p % 1024))
-      hit p a b d e (yes k) = rw (upper-in p k d e, lower-off p (λ f g h. omega arith)) (omega arith)
-      hit p a b d e (no k) = rw (lower-in p (omega (arith, k)) d e, upper-off p (λ f g h. k f)) (omega arith)
+      hit p a b d e (yes k) = rw (upper_in p k d e, lower_off p (λ f g h. omega arith)) (omega arith)
+      hit p a b d e (no k) = rw (lower_in p (omega (arith, k)) d e, upper_off p (λ f g h. k f)) (omega arith)
 
 -- ---- `square`
 -- four bits as a number, the second and the third exchanged
-four-parts : (a b c d : ℕ) → a < 2 → b < 2 → c < 2 → d < 2
+four_parts : (a b c d : ℕ) → a < 2 → b < 2 → c < 2 → d < 2
     → (a + b * 4 + c * 2 + d * 8 < 16) × ((a + b * 4 + c * 2 + d * 8) % 2 ≡ a) × ((a + b * 4 + c * 2 + d * 8) / 2 % 2 ≡ c)
     × ((a + b * 4 + c * 2 + d * 8) / 4 % 2 ≡ b) × ((a + b * 4 + c * 2 + d * 8) / 8 ≡ d)
-four-parts a b c d la lb lc ld = (omega arith, omega arith, omega arith, omega arith, omega arith)
+four_parts a b c d la lb lc ld = (omega arith, omega arith, omega arith, omega arith, omega arith)
 
-module _ (f : ℕ → ℕ) (bits : Bits f) (b v : ℕ) (e : v ≡ fourAt f b) where
+module _ (f : ℕ → ℕ) (bits : Bits f) (b v : ℕ) (e : v ≡ four_at f b) where
   small : v < 16
-  unfolding fourAt
+  unfolding four_at
   small = omega (arith, bits b, bits (b + 1), bits (b + 2), bits (b + 3))
 
-  digits-of : (v % 2 ≡ f (b + 0)) × (v / 2 % 2 ≡ f (b + 1)) × (v / 4 % 2 ≡ f (b + 2)) × (v / 8 ≡ f (b + 3))
-  unfolding fourAt
-  digits-of =
+  digits_of : (v % 2 ≡ f (b + 0)) × (v / 2 % 2 ≡ f (b + 1)) × (v / 4 % 2 ≡ f (b + 2)) × (v / 8 ≡ f (b + 3))
+  unfolding four_at
+  digits_of =
       let z : b + 0 ≡ b = omega arith in
       rw z (
         omega (arith, bits b, bits (b + 1), bits (b + 2), bits (b + 3)),
@@ -330,83 +330,83 @@ module _ (f : ℕ → ℕ) (bits : Bits f) (b v : ℕ) (e : v ≡ fourAt f b) wh
       )
 
   -- the digits of a number below 16
-  digit-at : (w : ℕ) → w < 16 → (q : ℕ) → q < 4 → (w₀ w₁ w₂ w₃ : ℕ) → w % 2 ≡ w₀ → w / 2 % 2 ≡ w₁
+  digit_at : (w : ℕ) → w < 16 → (q : ℕ) → q < 4 → (w₀ w₁ w₂ w₃ : ℕ) → w % 2 ≡ w₀ → w / 2 % 2 ≡ w₁
       → w / 4 % 2 ≡ w₂ → w / 8 ≡ w₃ → (g : ℕ → ℕ) → w₀ ≡ g 0 → w₁ ≡ g 1 → w₂ ≡ g 2 → w₃ ≡ g 3 → digit w q ≡ g q
   unfolding digit
-  digit-at w l zero h w₀ w₁ w₂ w₃ a₀ a₁ a₂ a₃ g b₀ b₁ b₂ b₃ = omega arith
-  digit-at w l (suc zero) h w₀ w₁ w₂ w₃ a₀ a₁ a₂ a₃ g b₀ b₁ b₂ b₃ = omega arith
-  digit-at w l (suc (suc zero)) h w₀ w₁ w₂ w₃ a₀ a₁ a₂ a₃ g b₀ b₁ b₂ b₃ = omega arith
-  digit-at w l (suc (suc (suc zero))) h w₀ w₁ w₂ w₃ a₀ a₁ a₂ a₃ g b₀ b₁ b₂ b₃ = omega arith
-  digit-at w l (suc (suc (suc (suc q)))) h w₀ w₁ w₂ w₃ a₀ a₁ a₂ a₃ g b₀ b₁ b₂ b₃ = absurd (omega arith)
+  digit_at w l zero h w₀ w₁ w₂ w₃ a₀ a₁ a₂ a₃ g b₀ b₁ b₂ b₃ = omega arith
+  digit_at w l (suc zero) h w₀ w₁ w₂ w₃ a₀ a₁ a₂ a₃ g b₀ b₁ b₂ b₃ = omega arith
+  digit_at w l (suc (suc zero)) h w₀ w₁ w₂ w₃ a₀ a₁ a₂ a₃ g b₀ b₁ b₂ b₃ = omega arith
+  digit_at w l (suc (suc (suc zero))) h w₀ w₁ w₂ w₃ a₀ a₁ a₂ a₃ g b₀ b₁ b₂ b₃ = omega arith
+  digit_at w l (suc (suc (suc (suc q)))) h w₀ w₁ w₂ w₃ a₀ a₁ a₂ a₃ g b₀ b₁ b₂ b₃ = absurd (omega arith)
 
-  pub square-plain : (s : ℕ) → s ≡ 0 → (v < 16) × ((q : ℕ) → q < 4 → digit v q ≡ f (b + turned s q))
-  square-plain s z =
-      rw z (small, λ q l. digit-at v small q l _ _ _ _ refl refl refl refl (λ k. f (b + k)) (digits-of .0) (digits-of .1) (digits-of .2) (digits-of .3))
+  pub square_plain : (s : ℕ) → s ≡ 0 → (v < 16) × ((q : ℕ) → q < 4 → digit v q ≡ f (b + turned s q))
+  square_plain s z =
+      rw z (small, λ q l. digit_at v small q l _ _ _ _ refl refl refl refl (λ k. f (b + k)) digits_of.0 digits_of.1 digits_of.2 digits_of.3)
 
   abbrev swapped : ℕ
   swapped = v % 2 + v / 2 % 2 * 4 + v / 4 % 2 * 2 + v / 8 * 8
 
-  pub square-turned : (s : ℕ) → s ≡ 1 → (swapped < 16) × ((q : ℕ) → q < 4 → digit swapped q ≡ f (b + turned s q))
-  square-turned s z =
-      let p = four-parts (v % 2) (v / 2 % 2) (v / 4 % 2) (v / 8) (omega arith) (omega arith) (omega arith) (omega (arith, small)) in
+  pub square_turned : (s : ℕ) → s ≡ 1 → (swapped < 16) × ((q : ℕ) → q < 4 → digit swapped q ≡ f (b + turned s q))
+  square_turned s z =
+      let p = four_parts (v % 2) (v / 2 % 2) (v / 4 % 2) (v / 8) (omega arith) (omega arith) (omega arith) (omega (arith, small)) in
       rw z (
-        p .0,
-        λ q h. digit-at swapped (p .0) q h (v % 2) (v / 4 % 2) (v / 2 % 2) (v / 8) (p .1) (p .2) (p .3) (p .4)
-            (λ k. f (b + exchanged k)) (digits-of .0) (digits-of .2) (digits-of .1) (digits-of .3),
+        p.0,
+        λ q h. digit_at swapped p.0 q h (v % 2) (v / 4 % 2) (v / 2 % 2) (v / 8) p.1 p.2 p.3 p.4
+            (λ k. f (b + exchanged k)) digits_of.0 digits_of.2 digits_of.1 digits_of.3,
       )
 
 -- ---- a square of side 2 ^ h with h at least 1
-pub descend-child : (s : ℕ) (ws : List ℕ) (h b x y : ℕ) (t : Cells) → 1 ≤ h → Reads s ws h b x y t → (q : ℕ) → q < 4 → bitAt ws (b + turned s q) ≡ 1
-    → Reads s ws (h - 1) (childPlace (bitAt ws) (b + turned s q)) (x + q / 2 * 2 ^ (h - 1)) (y + q % 2 * 2 ^ (h - 1)) t
-descend-child s ws zero b x y t l n q g o = absurd (omega arith)
-descend-child s ws (suc h) b x y t l n q g o = let e : suc h - 1 ≡ h = omega arith in rw e (reads-child s ws h b x y t n q g o)
+pub descend_child : (s : ℕ) (ws : List ℕ) (h b x y : ℕ) (t : Cells) → 1 ≤ h → Reads s ws h b x y t → (q : ℕ) → q < 4 → bit_at ws (b + turned s q) ≡ 1
+    → Reads s ws (h - 1) (child_place (bit_at ws) (b + turned s q)) (x + q / 2 * 2 ^ (h - 1)) (y + q % 2 * 2 ^ (h - 1)) t
+descend_child s ws zero b x y t l n q g o = absurd (omega arith)
+descend_child s ws (suc h) b x y t l n q g o = let e : suc h - 1 ≡ h = omega arith in rw e (reads_child s ws h b x y t n q g o)
 
-descend-empty : (s : ℕ) (ws : List ℕ) (h b x y : ℕ) (t a : Cells) → 1 ≤ h → Reads s ws h b x y t → (q : ℕ) → q < 4 → bitAt ws (b + turned s q) ≡ 0
-    → union a (quartersTo q (h - 1) x y t) ≡ union a (quartersTo (q + 1) (h - 1) x y t)
-descend-empty s ws zero b x y t a l n q g o = absurd (omega arith)
-descend-empty s ws (suc h) b x y t a l n q g o = let e : suc h - 1 ≡ h = omega arith in rw e (quarters-empty q h x y t a (reads-empty s ws h b x y t n q g o))
+descend_empty : (s : ℕ) (ws : List ℕ) (h b x y : ℕ) (t a : Cells) → 1 ≤ h → Reads s ws h b x y t → (q : ℕ) → q < 4 → bit_at ws (b + turned s q) ≡ 0
+    → union a (quarters_to q (h - 1) x y t) ≡ union a (quarters_to (q + 1) (h - 1) x y t)
+descend_empty s ws zero b x y t a l n q g o = absurd (omega arith)
+descend_empty s ws (suc h) b x y t a l n q g o = let e : suc h - 1 ≡ h = omega arith in rw e (quarters_empty q h x y t a (reads_empty s ws h b x y t n q g o))
 
-pub descend-all : (h x y : ℕ) (t : Cells) → 1 ≤ h → quartersTo 4 (h - 1) x y t ≡ inside h x y t
-descend-all zero x y t l = absurd (omega arith)
-descend-all (suc h) x y t l = let e : suc h - 1 ≡ h = omega arith in rw e (quarters-all h x y t)
+pub descend_all : (h x y : ℕ) (t : Cells) → 1 ≤ h → quarters_to 4 (h - 1) x y t ≡ inside h x y t
+descend_all zero x y t l = absurd (omega arith)
+descend_all (suc h) x y t l = let e : suc h - 1 ≡ h = omega arith in rw e (quarters_all h x y t)
 
 -- quarters passed that are empty
-pub descend-gap : (s : ℕ) (ws : List ℕ) (h b x y : ℕ) (t a : Cells) → 1 ≤ h → Reads s ws h b x y t
-    → (q r : ℕ) → q ≤ r → r ≤ 4 → ((j : ℕ) → q ≤ j → j < r → bitAt ws (b + turned s j) ≡ 0)
-    → union a (quartersTo q (h - 1) x y t) ≡ union a (quartersTo r (h - 1) x y t)
-descend-gap s ws h b x y t a l n q zero k g o = let e : q ≡ 0 = omega arith in rw e refl
-descend-gap s ws h b x y t a l n q (suc r) k g o =
-    go (ℕ-discrete q (suc r)) (λ p. descend-gap s ws h b x y t a l n q r p (omega arith) (λ j u v. o j u (omega arith)))
+pub descend_gap : (s : ℕ) (ws : List ℕ) (h b x y : ℕ) (t a : Cells) → 1 ≤ h → Reads s ws h b x y t
+    → (q r : ℕ) → q ≤ r → r ≤ 4 → ((j : ℕ) → q ≤ j → j < r → bit_at ws (b + turned s j) ≡ 0)
+    → union a (quarters_to q (h - 1) x y t) ≡ union a (quarters_to r (h - 1) x y t)
+descend_gap s ws h b x y t a l n q zero k g o = let e : q ≡ 0 = omega arith in rw e refl
+descend_gap s ws h b x y t a l n q (suc r) k g o =
+    go (ℕ_discrete q (suc r)) (λ p. descend_gap s ws h b x y t a l n q r p (omega arith) (λ j u v. o j u (omega arith)))
   where
-    go : Dec (q ≡ suc r) → (q ≤ r → union a (quartersTo q (h - 1) x y t) ≡ union a (quartersTo r (h - 1) x y t))
-        → union a (quartersTo q (h - 1) x y t) ≡ union a (quartersTo (suc r) (h - 1) x y t)
+    go : Dec (q ≡ suc r) → (q ≤ r → union a (quarters_to q (h - 1) x y t) ≡ union a (quarters_to r (h - 1) x y t))
+        → union a (quarters_to q (h - 1) x y t) ≡ union a (quarters_to (suc r) (h - 1) x y t)
     go (yes e) more = rw e refl
     go (no e) more =
         let i : r + 1 ≡ suc r = omega arith in
-        more (omega (arith, e)) ∙ descend-empty s ws h b x y t a l n r (omega arith) (o r (omega (arith, e)) (omega arith))
-        ∙ ap (λ (i : ℕ). union a (quartersTo i (h - 1) x y t)) i
+        more (omega (arith, e)) ∙ descend_empty s ws h b x y t a l n r (omega arith) (o r (omega (arith, e)) (omega arith))
+        ∙ ap (λ (i : ℕ). union a (quarters_to i (h - 1) x y t)) i
 
 -- a quarter fits where its square does
-quarter-fits : (u s w x : ℕ) → u < 2 → s + s ≡ w → x + w ≤ 1024 → x + u * s + s ≤ 1024
-quarter-fits zero s w x l e f = omega arith
-quarter-fits (suc zero) s w x l e f = omega arith
-quarter-fits (suc (suc u)) s w x l e f = absurd (omega arith)
+quarter_fits : (u s w x : ℕ) → u < 2 → s + s ≡ w → x + w ≤ 1024 → x + u * s + s ≤ 1024
+quarter_fits zero s w x l e f = omega arith
+quarter_fits (suc zero) s w x l e f = omega arith
+quarter_fits (suc (suc u)) s w x l e f = absurd (omega arith)
 
-pub quarter-in : (q s w x y : ℕ) → q < 4 → s + s ≡ w → x + w ≤ 1024 → y + w ≤ 1024 → (x + q / 2 * s + s ≤ 1024) × (y + q % 2 * s + s ≤ 1024)
-quarter-in q s w x y l e f g = (quarter-fits (q / 2) s w x (omega arith) e f, quarter-fits (q % 2) s w y (omega arith) e g)
+pub quarter_in : (q s w x y : ℕ) → q < 4 → s + s ≡ w → x + w ≤ 1024 → y + w ≤ 1024 → (x + q / 2 * s + s ≤ 1024) × (y + q % 2 * s + s ≤ 1024)
+quarter_in q s w x y l e f g = (quarter_fits (q / 2) s w x (omega arith) e f, quarter_fits (q % 2) s w y (omega arith) e g)
 
 pub one-le : {h : ℕ} → 2 ≤ h → 1 ≤ h
 one-le l = omega arith
 
-pub quarter-even : (u s y : ℕ) → u < 2 → s % 2 ≡ 0 → y % 2 ≡ 0 → (y + u * s) % 2 ≡ 0
-quarter-even zero s y l e f = omega arith
-quarter-even (suc zero) s y l e f = omega arith
-quarter-even (suc (suc u)) s y l e f = absurd (omega arith)
+pub quarter_even : (u s y : ℕ) → u < 2 → s % 2 ≡ 0 → y % 2 ≡ 0 → (y + u * s) % 2 ≡ 0
+quarter_even zero s y l e f = omega arith
+quarter_even (suc zero) s y l e f = omega arith
+quarter_even (suc (suc u)) s y l e f = absurd (omega arith)
 
-pub half-law : (h : ℕ) → 2 ≤ h → (2 ^ (h - 1) + 2 ^ (h - 1) ≡ 2 ^ h) × (2 ^ (h - 1) % 2 ≡ 0)
-half-law zero l = absurd (omega arith)
-half-law (suc zero) l = absurd (omega arith)
-half-law (suc (suc h)) l =
+pub half_law : (h : ℕ) → 2 ≤ h → (2 ^ (h - 1) + 2 ^ (h - 1) ≡ 2 ^ h) × (2 ^ (h - 1) % 2 ≡ 0)
+half_law zero l = absurd (omega arith)
+half_law (suc zero) l = absurd (omega arith)
+half_law (suc (suc h)) l =
     let e : suc (suc h) - 1 ≡ suc h = omega arith in
     rw e (omega (arith, pow-suc 2 (suc h)), omega (arith, pow-suc 2 h))
 
@@ -416,7 +416,7 @@ module _ (v q : ℕ) (vl : v < 16) (ql : q ≤ 4) where
   w = (v + 16) / 2 ^ q
 
   abbrev k : ℕ
-  k = trailingZeros 64 w
+  k = count_trailing_zeros 64 w
 
   -- a one put behind the four digits
   low : (j : ℕ) → j < 4 → digit (v + 16) j ≡ digit v j
@@ -439,23 +439,23 @@ module _ (v q : ℕ) (vl : v < 16) (ql : q ≤ 4) where
   some (suc (suc (suc (suc zero)))) l = omega arith
   some (suc (suc (suc (suc (suc q))))) l = absurd (omega arith)
 
-  small-w : w < 2 ^ 64
-  small-w = lt-of-le-of-lt (div-le-self (v + 16) (2 ^ q)) (omega arith)
+  small_w : w < 2 ^ 64
+  small_w = lt_of_le_of_lt (div-le_self (v + 16) (2 ^ q)) (omega arith)
 
   clear : (j : ℕ) → q ≤ j → j < q + k → digit (v + 16) j ≡ 0
   clear j h l =
       let e : q + (j - q) ≡ j = omega arith in
-      ap (digit (v + 16)) (sym e) ∙ digit-add (v + 16) q (j - q) ∙ trailing-clear 64 w (j - q) (omega arith)
+      ap (digit (v + 16)) (sym e) ∙ digit_add (v + 16) q (j - q) ∙ trailing_clear 64 w (j - q) (omega arith)
 
-  pub next-le : q + k ≤ 4
-  next-le = go (decLt 4 (q + k))
+  pub next_le : q + k ≤ 4
+  next_le = go (dec_lt 4 (q + k))
     where
       go : Dec (4 < q + k) → q + k ≤ 4
       go (yes l) = absurd (omega (arith, clear 4 ql l, last))
       go (no l) = omega arith
 
-  pub next-clear : (j : ℕ) → q ≤ j → j < q + k → digit v j ≡ 0
-  next-clear j h l = sym (low j (omega (arith, next-le))) ∙ clear j h l
+  pub next_clear : (j : ℕ) → q ≤ j → j < q + k → digit v j ≡ 0
+  next_clear j h l = sym (low j (omega (arith, next_le))) ∙ clear j h l
 
-  pub next-set : q + k < 4 → digit v (q + k) ≡ 1
-  next-set l = sym (low (q + k) l) ∙ digit-add (v + 16) q k ∙ trailing-set 64 w (some q ql) small-w
+  pub next_set : q + k < 4 → digit v (q + k) ≡ 1
+  next_set l = sym (low (q + k) l) ∙ digit_add (v + 16) q k ∙ trailing_set 64 w (some q ql) small_w

@@ -1,98 +1,98 @@
 -- Laws of what `any_of_eight`, `block`, `swap`, `shuffle` and `summary` make of words.
---   swap-law             `swap`: which bit comes where
+--   swap_law             `swap`: which bit comes where
 --   mask₁, mask₂, mask₃  the masks of the three exchanges of `shuffle`
---   apart-first, apart-second, apart-third
+--   apart_first, apart_second, apart_third
 --                        the bits of each mask and those that they change places with are apart
---   shuffle-law          three exchanges bring the bits of rows into the order of a tree's last level
---   summary-law          `summary`: bit j of it tells whether the four bits of group j are not all 0
+--   shuffle_law          three exchanges bring the bits of rows into the order of a tree's last level
+--   summary_law          `summary`: bit j of it tells whether the four bits of group j are not all 0
 -- Assumes nothing.
-use mathlib.Core.Path.{_≡_, refl, sym, ap, _∙_}
+use mathlib.Core.Path.{◌≡◌, refl, sym, ap, ◌∙◌}
 use mathlib.Core.Bool.{Bool, true, false}
-use Prim.Native.Nat.{ℕ, zero, suc, _+_, _-_, _*_, _/_, _%_, _^_, _≤_, _<_, min, max}
+use Prim.Native.Nat.{ℕ, zero, suc, ◌+◌, ◌-◌, ◌*◌, ◌/◌, ◌%◌, ◌^◌, ◌≤◌, ◌<◌, min, max}
 use native.Mathlib.Nat.{mod-lt}
-use native.Mathlib.Decide.{decLt}
+use native.Mathlib.Decide.{dec_lt}
 use native.Mathlib.Omega.{arith}
-use lib.Bits.{bitAnd, bitOr, or-lt}
+use lib.Bits.{bit_and, bit_or, or_lt}
 use lib.Dec.{eqb, leb, ltb}
-use lib.Pow.{pow-pos}
+use lib.Pow.{pow_pos}
 use borrow.Author.Tests.{eqb-true, le-leb, lt-leb, lt-ltb, le-ltb, ltb-true}
-use Rattle·book.specs.Basics.{pick}
-use Rattle·k2.specs.Bits.{digit}
-use Rattle·k2.specs.DigitLaws.{shifted, digit-lt, digit-or, digit-and, digit-not, digit-big, digit-add}
-use Rattle·k2.specs.WordLaws.{digit-left, allBelow, all-below}
-use Rattle·k2.specs.Heap.{rowAt, columnAt, anyFour}
-use Rattle·packing·specs.specs.Image.{swapPlace}
+use Rattle.book.specs.Basics.{pick}
+use Rattle.k2.specs.Bits.{digit}
+use Rattle.k2.specs.DigitLaws.{shifted, digit_lt, digit_or, digit_and, digit_not, digit_big, digit_add}
+use Rattle.k2.specs.WordLaws.{digit_left, all_below, all-below}
+use Rattle.k2.specs.Heap.{row_at, column_at, any_four}
+use Rattle.packing.specs.Image.{swap_place}
 
 -- ---- swap
 module _ (w k m : ℕ) (wl : w < 2 ^ 64) (ml : m < 2 ^ 64) (apart : (j : ℕ) → digit m j ≡ 1 → (j + k < 64) × (digit m (j + k) ≡ 0)) where
   abbrev low : ℕ
-  low = bitOr m ((m * 2 ^ k) % 2 ^ 64)
+  low = bit_or m ((m * 2 ^ k) % 2 ^ 64)
 
   abbrev swapped : ℕ
-  swapped = bitOr (bitOr (bitAnd w ((2 ^ 64 - 1) - low)) ((bitAnd w m * 2 ^ k) % 2 ^ 64)) (bitAnd (w / 2 ^ k) m)
+  swapped = bit_or (bit_or (bit_and w ((2 ^ 64 - 1) - low)) ((bit_and w m * 2 ^ k) % 2 ^ 64)) (bit_and (w / 2 ^ k) m)
 
-  low-lt : low < 2 ^ 64
-  low-lt = or-lt 64 m ((m * 2 ^ k) % 2 ^ 64) ml (mod-lt (m * 2 ^ k) (pow-pos 64))
+  low_lt : low < 2 ^ 64
+  low_lt = or_lt 64 m ((m * 2 ^ k) % 2 ^ 64) ml (mod-lt (m * 2 ^ k) (pow_pos 64))
 
   -- digit j by those of w and m
-  swapped-digit : (j : ℕ) → j < 64
+  swapped_digit : (j : ℕ) → j < 64
       → digit swapped j
-      ≡ max (max (min (digit w j) (1 - max (digit m j) (shifted k m j))) (shifted k (bitAnd w m) j)) (min (digit w (k + j)) (digit m j))
-  swapped-digit j l =
-      rw (digit-or, digit-or, digit-and, digit-not 64 j low low-lt l, digit-or, digit-left m k j l, digit-left (bitAnd w m) k j l, digit-and, ← digit-add) refl
+      ≡ max (max (min (digit w j) (1 - max (digit m j) (shifted k m j))) (shifted k (bit_and w m) j)) (min (digit w (k + j)) (digit m j))
+  swapped_digit j l =
+      rw (digit_or, digit_or, digit_and, digit_not 64 j low low_lt l, digit_or, digit_left m k j l, digit_left (bit_and w m) k j l, digit_and, ← digit_add) refl
 
-  pub swap-law : (j : ℕ) → j < 64 → digit swapped j ≡ digit w (swapPlace k m j)
-  unfolding swapPlace shifted
-  swap-law j l = swapped-digit j l ∙ by (digit m j) refl (digit-lt m j) (decLt j k)
+  pub swap_law : (j : ℕ) → j < 64 → digit swapped j ≡ digit w (swap_place k m j)
+  unfolding swap_place shifted
+  swap_law j l = swapped_digit j l ∙ by (digit m j) refl (digit_lt m j) (dec_lt j k)
     where
       d : ℕ → ℕ
       d = digit w
 
       by : (b : ℕ) → digit m j ≡ b → b < 2 → Dec (j < k)
-          → max (max (min (d j) (1 - max (digit m j) (pick (leb k j) (digit m (j - k)) 0))) (pick (leb k j) (digit (bitAnd w m) (j - k)) 0))
+          → max (max (min (d j) (1 - max (digit m j) (pick (leb k j) (digit m (j - k)) 0))) (pick (leb k j) (digit (bit_and w m) (j - k)) 0))
           (min (d (k + j)) (digit m j))
           ≡ d (pick (eqb (digit m j) 1) (j + k) (pick (leb k j) (pick (eqb (digit m (j - k)) 1) (j - k) j) j))
-      by zero e g (yes s) = rw (e, lt-leb k j s) (omega (arith, digit-lt w j))
-      by zero e g (no s) = rw (e, le-leb k j (omega arith), digit-and w m (j - k)) (inner (digit m (j - k)) refl (digit-lt m (j - k)))
+      by zero e g (yes s) = rw (e, lt-leb k j s) (omega (arith, digit_lt w j))
+      by zero e g (no s) = rw (e, le-leb k j (omega arith), digit_and w m (j - k)) (inner (digit m (j - k)) refl (digit_lt m (j - k)))
         where
           inner : (b : ℕ) → digit m (j - k) ≡ b → b < 2
               → max (max (min (d j) (1 - max 0 (digit m (j - k)))) (min (digit w (j - k)) (digit m (j - k)))) (min (d (k + j)) 0)
               ≡ d (pick (eqb (digit m (j - k)) 1) (j - k) j)
-          inner zero i h = rw i (omega (arith, digit-lt w j))
-          inner (suc zero) i h = rw i (omega (arith, digit-lt w (j - k)))
+          inner zero i h = rw i (omega (arith, digit_lt w j))
+          inner (suc zero) i h = rw i (omega (arith, digit_lt w (j - k)))
           inner (suc (suc b)) i h = absurd (omega arith)
-      by (suc zero) e g s = rw (e, shut s) (let c : k + j ≡ j + k = omega arith in rw c (omega (arith, digit-lt w (j + k), digit-lt w j, part s)))
+      by (suc zero) e g s = rw (e, shut s) (let c : k + j ≡ j + k = omega arith in rw c (omega (arith, digit_lt w (j + k), digit_lt w j, part s)))
         where
-          shut : Dec (j < k) → pick (leb k j) (digit (bitAnd w m) (j - k)) 0 ≡ 0
+          shut : Dec (j < k) → pick (leb k j) (digit (bit_and w m) (j - k)) 0 ≡ 0
           shut (yes s) = rw (lt-leb k j s)
           shut (no s) =
-              rw (le-leb k j (omega arith), digit-and w m (j - k)) (under (digit m (j - k)) refl (digit-lt m (j - k)))
+              rw (le-leb k j (omega arith), digit_and w m (j - k)) (under (digit m (j - k)) refl (digit_lt m (j - k)))
             where
               under : (b : ℕ) → digit m (j - k) ≡ b → b < 2 → min (digit w (j - k)) (digit m (j - k)) ≡ 0
               under zero i h = rw i (omega arith)
-              under (suc zero) i h = let c : j - k + k ≡ j = omega arith in absurd (omega (arith, rw c at (apart (j - k) i .1)))
+              under (suc zero) i h = let c : j - k + k ≡ j = omega arith in absurd (omega (arith, rw c at (apart (j - k) i).1))
               under (suc (suc b)) i h = absurd (omega arith)
 
           part : Dec (j < k) → pick (leb k j) (digit m (j - k)) 0 < 2
           part (yes s) = rw (lt-leb k j s) (omega arith)
-          part (no s) = rw (le-leb k j (omega arith)) (digit-lt m (j - k))
+          part (no s) = rw (le-leb k j (omega arith)) (digit_lt m (j - k))
       by (suc (suc b)) e g s = absurd (omega arith)
 
 -- a mask whose bits and those k places above them are apart, by a table
-unfoldable apartAt : ℕ → ℕ → ℕ → Bool
-apartAt k m j = pick (eqb (digit m j) 1) (pick (ltb (j + k) 64) (eqb (digit m (j + k)) 0) false) true
+unfoldable apart_at : ℕ → ℕ → ℕ → Bool
+apart_at k m j = pick (eqb (digit m j) 1) (pick (ltb (j + k) 64) (eqb (digit m (j + k)) 0) false) true
 
-mask-apart : (k m : ℕ) → m < 2 ^ 64 → allBelow 64 (apartAt k m) ≡ true → (j : ℕ) → digit m j ≡ 1 → (j + k < 64) × (digit m (j + k) ≡ 0)
-unfolding apartAt
-mask-apart k m ml t j e = go (decLt j 64)
+mask_apart : (k m : ℕ) → m < 2 ^ 64 → all_below 64 (apart_at k m) ≡ true → (j : ℕ) → digit m j ≡ 1 → (j + k < 64) × (digit m (j + k) ≡ 0)
+unfolding apart_at
+mask_apart k m ml t j e = go (dec_lt j 64)
   where
     by : (b : Bool) → ltb (j + k) 64 ≡ b → pick b (eqb (digit m (j + k)) 0) false ≡ true → (j + k < 64) × (digit m (j + k) ≡ 0)
     by true s r = (ltb-true (j + k) 64 s, eqb-true (digit m (j + k)) 0 r)
-    by false s r = absurd (let y : _≡_ {A = ℕ} 0 1 = cc in omega arith)
+    by false s r = absurd (let y : ◌≡◌ {A = ℕ} 0 1 = cc in omega arith)
 
     go : Dec (j < 64) → (j + k < 64) × (digit m (j + k) ≡ 0)
-    go (yes l) = by (ltb (j + k) 64) refl (rw e at (all-below 64 (apartAt k m) t j l))
-    go (no l) = absurd (omega (arith, digit-big 64 j m ml (omega arith)))
+    go (yes l) = by (ltb (j + k) 64) refl (rw e at (all-below 64 (apart_at k m) t j l))
+    go (no l) = absurd (omega (arith, digit_big 64 j m ml (omega arith)))
 
 -- ---- shuffle: three exchanges bring the bits of rows into the order of a tree's last level
 abbrev pub mask₁ : ℕ
@@ -104,52 +104,52 @@ mask₂ = 67555025218437360
 abbrev pub mask₃ : ℕ
 mask₃ = 868082074056920076
 
-unfoldable shuffleAt : ℕ → Bool
-shuffleAt j =
-    pick (ltb (swapPlace 2 mask₃ j) 64)
-    (pick (ltb (swapPlace 4 mask₂ (swapPlace 2 mask₃ j)) 64)
-    (eqb (swapPlace 12 mask₁ (swapPlace 4 mask₂ (swapPlace 2 mask₃ j))) (8 * rowAt 3 j + columnAt 3 j))
+unfoldable shuffle_at : ℕ → Bool
+shuffle_at j =
+    pick (ltb (swap_place 2 mask₃ j) 64)
+    (pick (ltb (swap_place 4 mask₂ (swap_place 2 mask₃ j)) 64)
+    (eqb (swap_place 12 mask₁ (swap_place 4 mask₂ (swap_place 2 mask₃ j))) (8 * row_at 3 j + column_at 3 j))
     false)
     false
 
-shuffle-table : allBelow 64 shuffleAt ≡ true
-unfolding allBelow shuffleAt swapPlace digit rowAt columnAt
-shuffle-table = refl
+shuffle_table : all_below 64 shuffle_at ≡ true
+unfolding all_below shuffle_at swap_place digit row_at column_at
+shuffle_table = refl
 
-pub apart-first : (j : ℕ) → digit mask₁ j ≡ 1 → (j + 12 < 64) × (digit mask₁ (j + 12) ≡ 0)
-unfolding allBelow apartAt digit
-apart-first = mask-apart 12 mask₁ (omega arith) refl
+pub apart_first : (j : ℕ) → digit mask₁ j ≡ 1 → (j + 12 < 64) × (digit mask₁ (j + 12) ≡ 0)
+unfolding all_below apart_at digit
+apart_first = mask_apart 12 mask₁ (omega arith) refl
 
-pub apart-second : (j : ℕ) → digit mask₂ j ≡ 1 → (j + 4 < 64) × (digit mask₂ (j + 4) ≡ 0)
-unfolding allBelow apartAt digit
-apart-second = mask-apart 4 mask₂ (omega arith) refl
+pub apart_second : (j : ℕ) → digit mask₂ j ≡ 1 → (j + 4 < 64) × (digit mask₂ (j + 4) ≡ 0)
+unfolding all_below apart_at digit
+apart_second = mask_apart 4 mask₂ (omega arith) refl
 
-pub apart-third : (j : ℕ) → digit mask₃ j ≡ 1 → (j + 2 < 64) × (digit mask₃ (j + 2) ≡ 0)
-unfolding allBelow apartAt digit
-apart-third = mask-apart 2 mask₃ (omega arith) refl
+pub apart_third : (j : ℕ) → digit mask₃ j ≡ 1 → (j + 2 < 64) × (digit mask₃ (j + 2) ≡ 0)
+unfolding all_below apart_at digit
+apart_third = mask_apart 2 mask₃ (omega arith) refl
 
 module _ (w a b r : ℕ)
-    (ea : (j : ℕ) → j < 64 → digit a j ≡ digit w (swapPlace 12 mask₁ j))
-    (eb : (j : ℕ) → j < 64 → digit b j ≡ digit a (swapPlace 4 mask₂ j))
-    (er : (j : ℕ) → j < 64 → digit r j ≡ digit b (swapPlace 2 mask₃ j)) where
-  pub shuffle-law : (j : ℕ) → j < 64 → digit r j ≡ digit w (8 * rowAt 3 j + columnAt 3 j)
-  unfolding shuffleAt
-  shuffle-law j l = by (ltb p 64) refl (ltb q 64) refl (all-below 64 shuffleAt shuffle-table j l)
+    (ea : (j : ℕ) → j < 64 → digit a j ≡ digit w (swap_place 12 mask₁ j))
+    (eb : (j : ℕ) → j < 64 → digit b j ≡ digit a (swap_place 4 mask₂ j))
+    (er : (j : ℕ) → j < 64 → digit r j ≡ digit b (swap_place 2 mask₃ j)) where
+  pub shuffle_law : (j : ℕ) → j < 64 → digit r j ≡ digit w (8 * row_at 3 j + column_at 3 j)
+  unfolding shuffle_at
+  shuffle_law j l = by (ltb p 64) refl (ltb q 64) refl (all-below 64 shuffle_at shuffle_table j l)
     where
       p : ℕ
-      p = swapPlace 2 mask₃ j
+      p = swap_place 2 mask₃ j
 
       q : ℕ
-      q = swapPlace 4 mask₂ p
+      q = swap_place 4 mask₂ p
 
       z : ℕ
-      z = 8 * rowAt 3 j + columnAt 3 j
+      z = 8 * row_at 3 j + column_at 3 j
 
-      by : (s : Bool) → ltb p 64 ≡ s → (t : Bool) → ltb q 64 ≡ t → pick s (pick t (eqb (swapPlace 12 mask₁ q) z) false) false ≡ true → digit r j ≡ digit w z
+      by : (s : Bool) → ltb p 64 ≡ s → (t : Bool) → ltb q 64 ≡ t → pick s (pick t (eqb (swap_place 12 mask₁ q) z) false) false ≡ true → digit r j ≡ digit w z
       by true f true g e =
-          er j l ∙ eb p (ltb-true p 64 f) ∙ ea q (ltb-true q 64 g) ∙ ap (digit w) (eqb-true (swapPlace 12 mask₁ q) z e)
-      by true f false g e = absurd (let y : _≡_ {A = ℕ} 0 1 = cc in omega arith)
-      by false f t g e = absurd (let y : _≡_ {A = ℕ} 0 1 = cc in omega arith)
+          er j l ∙ eb p (ltb-true p 64 f) ∙ ea q (ltb-true q 64 g) ∙ ap (digit w) (eqb-true (swap_place 12 mask₁ q) z e)
+      by true f false g e = absurd (let y : ◌≡◌ {A = ℕ} 0 1 = cc in omega arith)
+      by false f t g e = absurd (let y : ◌≡◌ {A = ℕ} 0 1 = cc in omega arith)
 
 -- ---- summary: in each word, some places hold the bits A in order, and the others 0; in groups of P places the first u hold bits
 unfoldable held : ℕ → ℕ → ℕ → Bool
@@ -162,8 +162,8 @@ abbrev Layer : ℕ → ℕ → (ℕ → ℕ) → ℕ → Type 0
 Layer P u A x = (p : ℕ) → digit x p ≡ pick (held P u p) (A (index P u p)) 0
 
 -- two groups become one of twice as many bits: each bit comes from its own place or from one s places above, as a table shows
-unfoldable foldAt : ℕ → ℕ → ℕ → ℕ → ℕ → Bool
-foldAt P u s m p =
+unfoldable fold_at : ℕ → ℕ → ℕ → ℕ → ℕ → Bool
+fold_at P u s m p =
     pick (held (2 * P) (2 * u) p)
     (pick (eqb (digit m p) 1)
     (pick (held P u p)
@@ -172,22 +172,22 @@ foldAt P u s m p =
     false)
     (eqb (digit m p) 0)
 
-module _ (A : ℕ → ℕ) (bit : (i : ℕ) → A i < 2) (P u s m x : ℕ) (ml : m < 2 ^ 64) (t : allBelow 64 (foldAt P u s m) ≡ true) (layer : Layer P u A x) where
+module _ (A : ℕ → ℕ) (bit : (i : ℕ) → A i < 2) (P u s m x : ℕ) (ml : m < 2 ^ 64) (t : all_below 64 (fold_at P u s m) ≡ true) (layer : Layer P u A x) where
   abbrev folded : ℕ
-  folded = bitAnd (bitOr x (x / 2 ^ s)) m
+  folded = bit_and (bit_or x (x / 2 ^ s)) m
 
-  fold-digit : (p : ℕ) → digit folded p ≡ min (max (digit x p) (digit x (p + s))) (digit m p)
-  fold-digit p = let e : p + s ≡ s + p = omega arith in rw (digit-and, digit-or, ← digit-add, e) refl
+  fold_digit : (p : ℕ) → digit folded p ≡ min (max (digit x p) (digit x (p + s))) (digit m p)
+  fold_digit p = let e : p + s ≡ s + p = omega arith in rw (digit_and, digit_or, ← digit_add, e) refl
 
-  fold-law : Layer (2 * P) (2 * u) A folded
-  unfolding held foldAt
-  fold-law p = go (decLt p 64)
+  fold_law : Layer (2 * P) (2 * u) A folded
+  unfolding held fold_at
+  fold_law p = go (dec_lt p 64)
     where
       i : ℕ
       i = index (2 * P) (2 * u) p
 
       absurdly : {B : Type 0} → false ≡ true → B
-      absurdly e = absurd (let y : _≡_ {A = ℕ} 0 1 = cc in omega arith)
+      absurdly e = absurd (let y : ◌≡◌ {A = ℕ} 0 1 = cc in omega arith)
 
       by : (a : Bool) → (b : Bool) → (c : Bool) → (d : Bool) → held (2 * P) (2 * u) p ≡ a → eqb (digit m p) 1 ≡ b → held P u p ≡ c → held P u (p + s) ≡ d
           → pick a (pick b (pick c (pick d false (eqb (index P u p) i)) (pick d (eqb (index P u (p + s)) i) false)) false) (eqb (digit m p) 0) ≡ true
@@ -207,95 +207,95 @@ module _ (A : ℕ → ℕ) (bit : (i : ℕ) → A i < 2) (P u s m x : ℕ) (ml :
 
       go : Dec (p < 64) → digit folded p ≡ pick (held (2 * P) (2 * u) p) (A i) 0
       go (yes l) =
-          fold-digit p
-          ∙ by (held (2 * P) (2 * u) p) (eqb (digit m p) 1) (held P u p) (held P u (p + s)) refl refl refl refl (all-below 64 (foldAt P u s m) t p l)
+          fold_digit p
+          ∙ by (held (2 * P) (2 * u) p) (eqb (digit m p) 1) (held P u p) (held P u (p + s)) refl refl refl refl (all-below 64 (fold_at P u s m) t p l)
       go (no l) =
-          let z : digit m p ≡ 0 = digit-big 64 p m ml (omega arith) in
+          let z : digit m p ≡ 0 = digit_big 64 p m ml (omega arith) in
           let h : held (2 * P) (2 * u) p ≡ false = rw (le-ltb p 64 (omega arith)) in
-          fold-digit p ∙ rw (z, h) (omega arith)
+          fold_digit p ∙ rw (z, h) (omega arith)
 
 -- the first layer: every fourth place tells of its group
-unfoldable firstAt : ℕ → Bool
-firstAt p = eqb (digit 1229782938247303441 p) (pick (held 4 1 p) 1 0)
+unfoldable first_at : ℕ → Bool
+first_at p = eqb (digit 1229782938247303441 p) (pick (held 4 1 p) 1 0)
 
-first-table : allBelow 64 firstAt ≡ true
-unfolding allBelow firstAt held digit
-first-table = refl
+first_table : all_below 64 first_at ≡ true
+unfolding all_below first_at held digit
+first_table = refl
 
-first-mask : (p : ℕ) → digit 1229782938247303441 p ≡ pick (held 4 1 p) 1 0
-unfolding firstAt held
-first-mask p = go (decLt p 64)
+first_mask : (p : ℕ) → digit 1229782938247303441 p ≡ pick (held 4 1 p) 1 0
+unfolding first_at held
+first_mask p = go (dec_lt p 64)
   where
     go : Dec (p < 64) → digit 1229782938247303441 p ≡ pick (held 4 1 p) 1 0
-    go (yes l) = eqb-true (digit 1229782938247303441 p) (pick (held 4 1 p) 1 0) (all-below 64 firstAt first-table p l)
-    go (no l) = digit-big 64 p 1229782938247303441 (omega arith) (omega arith) ∙ rw (le-ltb p 64 (omega arith))
+    go (yes l) = eqb-true (digit 1229782938247303441 p) (pick (held 4 1 p) 1 0) (all-below 64 first_at first_table p l)
+    go (no l) = digit_big 64 p 1229782938247303441 (omega arith) (omega arith) ∙ rw (le-ltb p 64 (omega arith))
 
 module _ (w : ℕ) (wl : w < 2 ^ 64) where
   abbrev A : ℕ → ℕ
-  A i = anyFour (digit w) (4 * i)
+  A i = any_four (digit w) (4 * i)
 
   A-bit : (i : ℕ) → A i < 2
-  A-bit i = omega (arith, digit-lt w (4 * i), digit-lt w (4 * i + 1), digit-lt w (4 * i + 2), digit-lt w (4 * i + 3))
+  A-bit i = omega (arith, digit_lt w (4 * i), digit_lt w (4 * i + 1), digit_lt w (4 * i + 2), digit_lt w (4 * i + 3))
 
   abbrev two : ℕ
-  two = bitOr w (w / 2 ^ 1)
+  two = bit_or w (w / 2 ^ 1)
 
-  four-digit : (p : ℕ) → digit (bitOr two (two / 2 ^ 2)) p ≡ anyFour (digit w) p
-  four-digit p =
-      let d₁ : digit (w / 2 ^ 1) p ≡ digit w (p + 1) = sym (digit-add w 1 p) ∙ ap (digit w) (omega arith) in
-      let d₂ : digit (two / 2 ^ 2) p ≡ digit two (p + 2) = sym (digit-add two 2 p) ∙ ap (digit two) (omega arith) in
-      let d₃ : digit (w / 2 ^ 1) (p + 2) ≡ digit w (p + 3) = sym (digit-add w 1 (p + 2)) ∙ ap (digit w) (omega arith) in
-      rw (digit-or, digit-or, d₁, d₂, digit-or, d₃) refl
+  four_digit : (p : ℕ) → digit (bit_or two (two / 2 ^ 2)) p ≡ any_four (digit w) p
+  four_digit p =
+      let d₁ : digit (w / 2 ^ 1) p ≡ digit w (p + 1) = sym (digit_add w 1 p) ∙ ap (digit w) (omega arith) in
+      let d₂ : digit (two / 2 ^ 2) p ≡ digit two (p + 2) = sym (digit_add two 2 p) ∙ ap (digit two) (omega arith) in
+      let d₃ : digit (w / 2 ^ 1) (p + 2) ≡ digit w (p + 3) = sym (digit_add w 1 (p + 2)) ∙ ap (digit w) (omega arith) in
+      rw (digit_or, digit_or, d₁, d₂, digit_or, d₃) refl
 
   abbrev x₁ : ℕ
-  x₁ = bitAnd (bitOr two (two / 2 ^ 2)) 1229782938247303441
+  x₁ = bit_and (bit_or two (two / 2 ^ 2)) 1229782938247303441
 
-  first-layer : Layer 4 1 A x₁
+  first_layer : Layer 4 1 A x₁
   unfolding held
-  first-layer p = rw (digit-and, four-digit, first-mask p) (by (held 4 1 p) refl)
+  first_layer p = rw (digit_and, four_digit, first_mask p) (by (held 4 1 p) refl)
     where
-      by : (b : Bool) → held 4 1 p ≡ b → min (anyFour (digit w) p) (pick b 1 0) ≡ pick b (A (index 4 1 p)) 0
+      by : (b : Bool) → held 4 1 p ≡ b → min (any_four (digit w) p) (pick b 1 0) ≡ pick b (A (index 4 1 p)) 0
       by true e =
           let l : p % 4 < 1 = here (ltb p 64) e in
           let q : 4 * index 4 1 p ≡ p = omega arith in
-          rw q (omega (arith, digit-lt w p, digit-lt w (p + 1), digit-lt w (p + 2), digit-lt w (p + 3)))
+          rw q (omega (arith, digit_lt w p, digit_lt w (p + 1), digit_lt w (p + 2), digit_lt w (p + 3)))
         where
           here : (c : Bool) → pick c (ltb (p % 4) 1) false ≡ true → p % 4 < 1
           here true f = ltb-true (p % 4) 1 f
-          here false f = absurd (let y : _≡_ {A = ℕ} 0 1 = cc in omega arith)
+          here false f = absurd (let y : ◌≡◌ {A = ℕ} 0 1 = cc in omega arith)
       by false e = omega arith
 
   abbrev x₂ : ℕ
-  x₂ = bitAnd (bitOr x₁ (x₁ / 2 ^ 3)) 217020518514230019
+  x₂ = bit_and (bit_or x₁ (x₁ / 2 ^ 3)) 217020518514230019
 
   abbrev x₃ : ℕ
-  x₃ = bitAnd (bitOr x₂ (x₂ / 2 ^ 6)) 4222189076152335
+  x₃ = bit_and (bit_or x₂ (x₂ / 2 ^ 6)) 4222189076152335
 
   abbrev x₄ : ℕ
-  x₄ = bitAnd (bitOr x₃ (x₃ / 2 ^ 12)) 1095216660735
+  x₄ = bit_and (bit_or x₃ (x₃ / 2 ^ 12)) 1095216660735
 
   abbrev x₅ : ℕ
-  x₅ = bitAnd (bitOr x₄ (x₄ / 2 ^ 24)) 65535
+  x₅ = bit_and (bit_or x₄ (x₄ / 2 ^ 24)) 65535
 
-  last-layer : Layer 64 16 A x₅
-  unfolding allBelow foldAt held digit
-  last-layer =
-      fold-law A A-bit 32 8 24 65535 x₄ (omega arith) refl
-      (fold-law A A-bit 16 4 12 1095216660735 x₃ (omega arith) refl
-      (fold-law A A-bit 8 2 6 4222189076152335 x₂ (omega arith) refl
-      (fold-law A A-bit 4 1 3 217020518514230019 x₁ (omega arith) refl first-layer)))
+  last_layer : Layer 64 16 A x₅
+  unfolding all_below fold_at held digit
+  last_layer =
+      fold_law A A-bit 32 8 24 65535 x₄ (omega arith) refl
+      (fold_law A A-bit 16 4 12 1095216660735 x₃ (omega arith) refl
+      (fold_law A A-bit 8 2 6 4222189076152335 x₂ (omega arith) refl
+      (fold_law A A-bit 4 1 3 217020518514230019 x₁ (omega arith) refl first_layer)))
 
-  pub summary-law : (j : ℕ) → digit x₅ j ≡ anyFour (digit w) (4 * j)
+  pub summary_law : (j : ℕ) → digit x₅ j ≡ any_four (digit w) (4 * j)
   unfolding held
-  summary-law j = last-layer j ∙ go (decLt j 16)
+  summary_law j = last_layer j ∙ go (dec_lt j 16)
     where
       go : Dec (j < 16) → pick (held 64 16 j) (A (index 64 16 j)) 0 ≡ A j
       go (yes l) =
           let e : index 64 16 j ≡ j = omega arith in
           rw (lt-ltb j 64 (omega arith), lt-ltb (j % 64) 16 (omega arith), e)
       go (no l) =
-          let z : (i : ℕ) → 64 ≤ i → digit w i ≡ 0 = λ i h. digit-big 64 i w wl h in
-          rw (z (4 * j) (omega arith), z (4 * j + 1) (omega arith), z (4 * j + 2) (omega arith), z (4 * j + 3) (omega arith)) (off (decLt j 64))
+          let z : (i : ℕ) → 64 ≤ i → digit w i ≡ 0 = λ i h. digit_big 64 i w wl h in
+          rw (z (4 * j) (omega arith), z (4 * j + 1) (omega arith), z (4 * j + 2) (omega arith), z (4 * j + 3) (omega arith)) (off (dec_lt j 64))
         where
           off : Dec (j < 64) → pick (held 64 16 j) (A (index 64 16 j)) 0 ≡ 0
           off (yes h) = rw (lt-ltb j 64 h, le-ltb (j % 64) 16 (omega arith))

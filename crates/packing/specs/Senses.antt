@@ -2,9 +2,9 @@
 --   sensed s a      the set a; with the sense Inverted its pairs exchanged
 --   opposite s      the other sense
 -- Assumes nothing: these are definitions.
-use Rattle·k2.specs.PairSets.{Cells, transpose}
-use Rattle·packing·specs.specs.declared.loading.Sense.{Sense}
-use Rattle·packing·specs.specs.declared.loading.Sense.the-variants.{Plain, Inverted}
+use Rattle.k2.specs.PairSets.{Cells, transpose}
+use Rattle.packing.specs.declared.loading.Sense.{Sense}
+use Rattle.packing.specs.declared.loading.Sense.TheVariants.{Plain, Inverted}
 
 abbrev pub sensed : Sense → Cells → Cells
 sensed Plain a = a

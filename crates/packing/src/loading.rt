@@ -1,20 +1,18 @@
 // A k2-tree loaded into rows of bits: the ones of its words counted, then its squares read level by level.
 // What reading a square means is stated in specs/Reading.antt.
-ghost use mathlib.Core.Path.{_≡_};
-ghost use Prim.Native.Nat.{ℕ, _+_, _-_, _/_, _%_, _^_, _<_, _≤_};
-ghost use lib.ListN.{length};
-ghost use Rattle·book.specs.Causes.{maxRecords};
-ghost use Rattle·k2.specs.Sizes.{rowsWords, mostTreeWords, mostCounts, mostChildPlace};
-ghost use Rattle·k2.specs.Bits.{digit, bitAt};
-ghost use Rattle·k2.specs.DigitLaws.{shifted};
-ghost use Rattle·k2.specs.PairSets.{Cells, IsSet, union};
-ghost use Rattle·k2.specs.Trees.{treeWords, childPlace};
-ghost use Rattle·bits.specs.BitSets.{either};
-ghost use Rattle·rows.specs.Rows.{flat};
-ghost use Rattle·packing·specs.specs.Senses.{sensed};
-ghost use Rattle·packing·specs.specs.Reading.{turnedBy, turned, inside, WordsCounted, BlocksCounted, Counted, Reads, squareBit, squareRow, squareColumn};
-ghost use Rattle·packing·specs.specs.Reading.{SquareIn, squaresTo, FitAll, ReadAll, ChildAsked, ReadAsked, SquaresAsked};
-ghost use Rattle·packing·specs.specs.Reading.{NextAsked, CellsAsked, LoadAsked, NextOne};
+ghost use Rattle.std.specs.Prelude.{◌≡◌, ℕ, ◌+◌, ◌-◌, ◌/◌, ◌%◌, ◌^◌, ◌<◌, ◌≤◌, length};
+ghost use Rattle.book.specs.Causes.{max_records};
+ghost use Rattle.k2.specs.Sizes.{rows_words, most_tree_words, most_counts, most_child_place};
+ghost use Rattle.k2.specs.Bits.{digit, bit_at};
+ghost use Rattle.k2.specs.DigitLaws.{shifted};
+ghost use Rattle.k2.specs.PairSets.{Cells, IsSet, union};
+ghost use Rattle.k2.specs.Trees.{tree_words, child_place};
+ghost use Rattle.bits.specs.BitSets.{either};
+ghost use Rattle.rows.specs.Rows.{flat};
+ghost use Rattle.packing.specs.Senses.{sensed};
+ghost use Rattle.packing.specs.Reading.{turned_by, turned, inside, WordsCounted, BlocksCounted, Counted, Reads, square_bit, square_row, square_column};
+ghost use Rattle.packing.specs.Reading.{SquareIn, squares_to, FitAll, ReadAll, ChildAsked, ReadAsked, SquaresAsked};
+ghost use Rattle.packing.specs.Reading.{NextAsked, CellsAsked, LoadAsked, NextOne};
 
 // The most rows and columns. A square waits as one word: its bit, its row and its column, each times its unit.
 const SIDE: usize = book::MAX_RECORDS;
@@ -26,8 +24,8 @@ const COUNTS: usize = 5462;
 
 // The ones before each word of a tree.
 fn count_words(tree: &[u64], before: &mut [u32])
-    requires { ⌜ (length (now tree) ≤ mostCounts) × (length (now before) ≡ mostCounts) ⌝ }
-    ensures { λ _. ⌜ WordsCounted (now (tree .entry)) (now (before .exit)) ⌝ }
+    requires { (length tree.now ≤ most_counts) × (length before.old ≡ most_counts) }
+    ensures { WordsCounted tree.now before.new }
 {
     let mut n: u32 = 0;
     let mut i = 0;
@@ -40,8 +38,8 @@ fn count_words(tree: &[u64], before: &mut [u32])
 
 // The ones before each block of four words of a tree.
 fn count_blocks(tree: &[u64], before: &mut [u32])
-    requires { ⌜ (length (now tree) ≤ mostTreeWords) × (length (now before) ≡ mostCounts) ⌝ }
-    ensures { λ _. ⌜ BlocksCounted (now (tree .entry)) (now (before .exit)) ⌝ }
+    requires { (length tree.now ≤ most_tree_words) × (length before.old ≡ most_counts) }
+    ensures { BlocksCounted tree.now before.new }
 {
     let mut n: u32 = 0;
     let mut i = 0;
@@ -56,8 +54,8 @@ fn count_blocks(tree: &[u64], before: &mut [u32])
 
 // The ones before each word of a tree, or of a long one before each block of four: there is room for 5,462 counts.
 fn count(tree: &[u64], before: &mut [u32])
-    requires { ⌜ (length (now tree) ≤ mostTreeWords) × (length (now before) ≡ mostCounts) ⌝ }
-    ensures { λ _. ⌜ Counted (now (tree .entry)) (now (before .exit)) ⌝ }
+    requires { (length tree.now ≤ most_tree_words) × (length before.old ≡ most_counts) }
+    ensures { Counted tree.now before.new }
 {
     if COUNTS < tree.len() {
         count_blocks(tree, before);
@@ -68,8 +66,8 @@ fn count(tree: &[u64], before: &mut [u32])
 
 // Where the children of the 1 at bit p begin: four times the count of ones in bits 0 to p. From the ones before its word:
 fn child_by_word(tree: &[u64], before: &[u32], p: usize) -> usize
-    requires { ⌜ ChildAsked mostCounts (now tree) (now before) p (WordsCounted (now tree) (now before)) ⌝ }
-    ensures { λ r. ⌜ (r ≡ childPlace (bitAt (now (tree .entry))) p) × (r ≤ mostChildPlace) ⌝ }
+    requires { ChildAsked most_counts tree.now before.now p (WordsCounted tree.now before.now) }
+    ensures { (result ≡ child_place (bit_at tree.now) p) × (result ≤ most_child_place) }
 {
     let q = p / 64;
     4 * (before[q] as usize + u64::count_ones(tree[q] << (63 - p % 64)) as usize)
@@ -77,8 +75,8 @@ fn child_by_word(tree: &[u64], before: &[u32], p: usize) -> usize
 
 // From the ones before its block of four words:
 fn child_by_block(tree: &[u64], before: &[u32], p: usize) -> usize
-    requires { ⌜ ChildAsked mostTreeWords (now tree) (now before) p (BlocksCounted (now tree) (now before)) ⌝ }
-    ensures { λ r. ⌜ (r ≡ childPlace (bitAt (now (tree .entry))) p) × (r ≤ mostChildPlace) ⌝ }
+    requires { ChildAsked most_tree_words tree.now before.now p (BlocksCounted tree.now before.now) }
+    ensures { (result ≡ child_place (bit_at tree.now) p) × (result ≤ most_child_place) }
 {
     let q = p / 64;
     let mut i = q / 4 * 4;
@@ -92,8 +90,8 @@ fn child_by_block(tree: &[u64], before: &[u32], p: usize) -> usize
 
 // From what was counted.
 fn child(tree: &[u64], before: &[u32], p: usize) -> usize
-    requires { ⌜ ChildAsked mostTreeWords (now tree) (now before) p (Counted (now tree) (now before)) ⌝ }
-    ensures { λ r. ⌜ (r ≡ childPlace (bitAt (now (tree .entry))) p) × (r ≤ mostChildPlace) ⌝ }
+    requires { ChildAsked most_tree_words tree.now before.now p (Counted tree.now before.now) }
+    ensures { (result ≡ child_place (bit_at tree.now) p) × (result ≤ most_child_place) }
 {
     if COUNTS < tree.len() {
         return child_by_block(tree, before, p);
@@ -103,8 +101,8 @@ fn child(tree: &[u64], before: &[u32], p: usize) -> usize
 
 // The quarter that is read as quarter q; with sense 1 the second and the third are exchanged.
 fn turn(q: usize, sense: usize) -> usize
-    requires { ⌜ (q < 4) × (sense ≤ 1) ⌝ }
-    ensures { λ r. ⌜ (r ≡ turned sense q) × (r < 4) ⌝ }
+    requires { (q < 4) × (sense ≤ 1) }
+    ensures { (result ≡ turned sense q) × (result < 4) }
 {
     if sense == 1 {
         return q % 2 * 2 + q / 2;
@@ -114,8 +112,8 @@ fn turn(q: usize, sense: usize) -> usize
 
 // The four bits of a square, from bit b on, in the order in which they are read.
 fn square(tree: &[u64], b: usize, sense: usize) -> u64
-    requires { ⌜ (b % 4 ≡ 0) × (sense ≤ 1) ⌝ }
-    ensures { λ r. ⌜ (r < 16) × ((q : ℕ) → q < 4 → digit r q ≡ bitAt (now (tree .entry)) (b + turned sense q)) ⌝ }
+    requires { (b % 4 ≡ 0) × (sense ≤ 1) }
+    ensures { (result < 16) × ((q : ℕ) → q < 4 → digit result q ≡ bit_at tree.now (b + turned sense q)) }
 {
     let v = bits::four(tree, b);
     if sense == 1 {
@@ -126,8 +124,8 @@ fn square(tree: &[u64], b: usize, sense: usize) -> u64
 
 // Two bits put in at p, which is even, beside what is there.
 fn or_two(words: &mut [u64], p: usize, v: u64)
-    requires { ⌜ (p % 2 ≡ 0) × (p / 64 < length (now words)) × (v < 4) ⌝ }
-    ensures { λ _. ⌜ bitAt (now (words .exit)) ≡ either (bitAt (now (words .entry))) (shifted p v) ⌝ }
+    requires { (p % 2 ≡ 0) × (p / 64 < length words.old) × (v < 4) }
+    ensures { bit_at words.new ≡ either (bit_at words.old) (shifted p v) }
 {
     let q = p / 64;
     words[q] = words[q] | v << (p % 64);
@@ -135,9 +133,9 @@ fn or_two(words: &mut [u64], p: usize, v: u64)
 
 // The four cells of a square of side 2 at row x and column y put into rows.
 fn put_cells(rows: &mut [u64], x: usize, y: usize, v: u64)
-    requires { ⌜ CellsAsked x y v (now rows) ⌝ }
-    ensures { λ _. ⌜ ((a t : Cells) → bitAt (now (rows .entry)) ≡ flat a → ((q : ℕ) → q < 4 → digit v q ≡ t (x + q / 2) (y + q % 2))
-        → bitAt (now (rows .exit)) ≡ flat (union a (inside 1 x y t))) ⌝ }
+    requires { CellsAsked x y v rows.old }
+    ensures { (a t : Cells) → bit_at rows.old ≡ flat a → ((q : ℕ) → q < 4 → digit v q ≡ t (x + q / 2) (y + q % 2))
+        → bit_at rows.new ≡ flat (union a (inside 1 x y t)) }
 {
     or_two(rows, x * SIDE + y, v % 4);
     or_two(rows, (x + 1) * SIDE + y, v / 4);
@@ -145,29 +143,30 @@ fn put_cells(rows: &mut [u64], x: usize, y: usize, v: u64)
 
 // Half the side of a square.
 fn half(h: usize) -> usize
-    requires { ⌜ (2 ≤ h) × (h ≤ 10) ⌝ }
-    ensures { λ r. ⌜ (r ≡ 2 ^ (h - 1)) × (r + r ≡ 2 ^ h) × (r % 2 ≡ 0) ⌝ }
+    requires { (2 ≤ h) × (h ≤ 10) }
+    ensures { (result ≡ 2 ^ (h - 1)) × (result + result ≡ 2 ^ h) × (result % 2 ≡ 0) }
 {
     1 << (h - 1)
 }
 
 // The first place from q on where v has a one, or 4.
 fn next_one(v: u64, q: usize) -> usize
-    requires { ⌜ (v < 16) × (q ≤ 4) ⌝ }
-    ensures { λ r. ⌜ NextOne v q r ⌝ }
+    requires { (v < 16) × (q ≤ 4) }
+    ensures { NextOne v q result }
 {
     q + u64::trailing_zeros((v + 16) >> q) as usize
 }
 
 // The square whose four bits begin at bit b, at row x and column y, as a number.
 fn square_number(b: usize, x: usize, y: usize) -> usize
-    requires { ⌜ (b ≤ mostChildPlace) × (x < maxRecords) × (y < maxRecords) ⌝ }
-    ensures { λ w. ⌜ (squareBit w ≡ b) × (squareRow w ≡ x) × (squareColumn w ≡ y) ⌝ }
+    requires { (b ≤ most_child_place) × (x < max_records) × (y < max_records) }
+    ensures { (square_bit result ≡ b) × (square_row result ≡ x) × (square_column result ≡ y) }
 {
     b * BIT_UNIT + x * SIDE + y
 }
 
 // A square as a node of the tree: the bit at which its four bits begin, its row and its column.
+#[derive(Clone, Copy)]
 struct Node {
     bit: usize,
     row: usize,
@@ -175,6 +174,7 @@ struct Node {
 }
 
 // Some squares of a list: how many, from which place on.
+#[derive(Clone, Copy)]
 struct Part {
     from: usize,
     count: usize,
@@ -191,12 +191,12 @@ fn children(
     next: &mut [usize],
     m: usize,
 ) -> usize
-    requires { ⌜ ReadAsked 2 h sense (now tree) (now before) × SquareIn h (at .bit) (at .row) (at .column) × NextAsked (h - 1) (now next) m ⌝ }
-    ensures { λ r. ⌜ (r ≤ m + 4) × FitAll (h - 1) (now (next .exit)) 0 r
-        × ((t : Cells) → Reads sense (now (tree .entry)) h (at .bit) (at .row) (at .column) t
-        → ReadAll sense (now (tree .entry)) (h - 1) (now (next .entry)) 0 m t
-        → ReadAll sense (now (tree .entry)) (h - 1) (now (next .exit)) 0 r t
-        × (squaresTo r (h - 1) (now (next .exit)) 0 t ≡ union (squaresTo m (h - 1) (now (next .entry)) 0 t) (inside h (at .row) (at .column) t))) ⌝ }
+    requires { ReadAsked 2 h sense tree.now before.now × SquareIn h at.bit at.row at.column × NextAsked (h - 1) next.old m }
+    ensures { (result ≤ m + 4) × FitAll (h - 1) next.new 0 result
+        × ((t : Cells) → Reads sense tree.now h at.bit at.row at.column t
+        → ReadAll sense tree.now (h - 1) next.old 0 m t
+        → ReadAll sense tree.now (h - 1) next.new 0 result t
+        × (squares_to result (h - 1) next.new 0 t ≡ union (squares_to m (h - 1) next.old 0 t) (inside h at.row at.column t))) }
 {
     let b = at.bit;
     let x = at.row;
@@ -224,11 +224,11 @@ fn spread(
     sense: usize,
     next: &mut [usize],
 ) -> usize
-    requires { ⌜ ReadAsked 2 h sense (now tree) (now before) × SquaresAsked h (now list) (part .from) (part .count) × (length (now next) ≡ 64) ⌝ }
-    ensures { λ r. ⌜ (r ≤ 64) × FitAll (h - 1) (now (next .exit)) 0 r
-        × ((t : Cells) → ReadAll sense (now (tree .entry)) h (now (list .entry)) (part .from) (part .count) t
-        → ReadAll sense (now (tree .entry)) (h - 1) (now (next .exit)) 0 r t
-        × (squaresTo r (h - 1) (now (next .exit)) 0 t ≡ squaresTo (part .count) h (now (list .entry)) (part .from) t)) ⌝ }
+    requires { ReadAsked 2 h sense tree.now before.now × SquaresAsked h list.now part.from part.count × (length next.old ≡ 64) }
+    ensures { (result ≤ 64) × FitAll (h - 1) next.new 0 result
+        × ((t : Cells) → ReadAll sense tree.now h list.now part.from part.count t
+        → ReadAll sense tree.now (h - 1) next.new 0 result t
+        × (squares_to result (h - 1) next.new 0 t ≡ squares_to part.count h list.now part.from t)) }
 {
     let from = part.from;
     let count = part.count;
@@ -249,9 +249,9 @@ fn spread(
 
 // The cells of some squares of side 2 of the list put into rows.
 fn leaves(tree: &[u64], list: &[usize], part: Part, sense: usize, rows: &mut [u64])
-    requires { ⌜ SquaresAsked 1 (now list) (part .from) (part .count) × (sense ≤ 1) × (length (now rows) ≡ rowsWords) ⌝ }
-    ensures { λ _. ⌜ ((a t : Cells) → bitAt (now (rows .entry)) ≡ flat a → ReadAll sense (now (tree .entry)) 1 (now (list .entry)) (part .from) (part .count) t
-        → bitAt (now (rows .exit)) ≡ flat (union a (squaresTo (part .count) 1 (now (list .entry)) (part .from) t))) ⌝ }
+    requires { SquaresAsked 1 list.now part.from part.count × (sense ≤ 1) × (length rows.old ≡ rows_words) }
+    ensures { (a t : Cells) → bit_at rows.old ≡ flat a → ReadAll sense tree.now 1 list.now part.from part.count t
+        → bit_at rows.new ≡ flat (union a (squares_to part.count 1 list.now part.from t)) }
 {
     let from = part.from;
     let count = part.count;
@@ -266,8 +266,8 @@ fn leaves(tree: &[u64], list: &[usize], part: Part, sense: usize, rows: &mut [u6
 
 // How many of the squares from place i on, of m, are taken together.
 fn taken(i: usize, m: usize) -> usize
-    requires { ⌜ i < m ⌝ }
-    ensures { λ r. ⌜ (1 ≤ r) × (r ≤ 16) × (i + r ≤ m) ⌝ }
+    requires { i < m }
+    ensures { (1 ≤ result) × (result ≤ 16) × (i + result ≤ m) }
 {
     if m - i < 16 {
         return m - i;
@@ -286,9 +286,9 @@ fn descend(
     sense: usize,
     rows: &mut [u64],
 )
-    requires { ⌜ ReadAsked 1 h sense (now tree) (now before) × SquaresAsked h (now list) (part .from) (part .count) × (length (now rows) ≡ rowsWords) ⌝ }
-    ensures { λ _. ⌜ ((a t : Cells) → bitAt (now (rows .entry)) ≡ flat a → ReadAll sense (now (tree .entry)) h (now (list .entry)) (part .from) (part .count) t
-        → bitAt (now (rows .exit)) ≡ flat (union a (squaresTo (part .count) h (now (list .entry)) (part .from) t))) ⌝ }
+    requires { ReadAsked 1 h sense tree.now before.now × SquaresAsked h list.now part.from part.count × (length rows.old ≡ rows_words) }
+    ensures { (a t : Cells) → bit_at rows.old ≡ flat a → ReadAll sense tree.now h list.now part.from part.count t
+        → bit_at rows.new ≡ flat (union a (squares_to part.count h list.now part.from t)) }
 {
     if h == 1 {
         leaves(tree, list, part, sense, rows);
@@ -306,6 +306,7 @@ fn descend(
 }
 
 // How a tree is read: as it is, or with each pair exchanged.
+#[derive(Clone, Copy)]
 pub enum Sense {
     Plain,
     Inverted,
@@ -313,9 +314,9 @@ pub enum Sense {
 
 // The pairs of a tree put into rows; with sense 1 each pair exchanged.
 fn load_by(tree: &[u64], n: usize, sense: usize, rows: &mut [u64])
-    requires { ⌜ LoadAsked n sense (now tree) (now rows) ⌝ }
-    ensures { λ _. ⌜ ((a x : Cells) → IsSet n a → now (tree .entry) ≡ treeWords n a → bitAt (now (rows .entry)) ≡ flat x
-        → bitAt (now (rows .exit)) ≡ flat (union x (turnedBy sense a))) ⌝ }
+    requires { LoadAsked n sense tree.now rows.old }
+    ensures { (a x : Cells) → IsSet n a → tree.now ≡ tree_words n a → bit_at rows.old ≡ flat x
+        → bit_at rows.new ≡ flat (union x (turned_by sense a)) }
 {
     let mut before: [u32; COUNTS] = [0; COUNTS];
     count(tree, &mut before);
@@ -326,9 +327,9 @@ fn load_by(tree: &[u64], n: usize, sense: usize, rows: &mut [u64])
 
 // The same by its name.
 pub fn load(tree: &[u64], n: usize, sense: Sense, rows: &mut [u64])
-    requires { ⌜ (n ≤ maxRecords) × (length (now tree) ≤ mostTreeWords) × (length (now rows) ≡ rowsWords) ⌝ }
-    ensures { λ _. ⌜ ((a x : Cells) → IsSet n a → now (tree .entry) ≡ treeWords n a → bitAt (now (rows .entry)) ≡ flat x
-        → bitAt (now (rows .exit)) ≡ flat (union x (sensed sense a))) ⌝ }
+    requires { (n ≤ max_records) × (length tree.now ≤ most_tree_words) × (length rows.old ≡ rows_words) }
+    ensures { (a x : Cells) → IsSet n a → tree.now ≡ tree_words n a → bit_at rows.old ≡ flat x
+        → bit_at rows.new ≡ flat (union x (sensed sense a)) }
 {
     match sense {
         Sense::Plain => load_by(tree, n, 0, rows),

@@ -1,18 +1,15 @@
 // Which words are a k2-tree: those that come back when what is read of them is packed again.
-use crate::loading::Sense;
-use crate::loading::load;
+ghost use Rattle.std.specs.Prelude.{◌≡◌, true, ◌≤◌, length, take};
+ghost use Rattle.book.specs.Causes.{max_records};
+ghost use Rattle.k2.specs.Trees.{WellFormed};
+
+use crate::loading::{Sense, load};
 use crate::making::pack;
-ghost use mathlib.Core.Path.{_≡_};
-ghost use mathlib.Core.Bool.{true};
-ghost use Prim.Native.Nat.{_≤_};
-ghost use lib.ListN.{length, take};
-ghost use Rattle·book.specs.Causes.{maxRecords};
-ghost use Rattle·k2.specs.Trees.{WellFormed};
 
 // Are the words of a the first `len` of b?
 fn same(a: &[u64], b: &[u64], len: usize) -> bool
-    requires { ⌜ len ≤ length (now b) ⌝ }
-    ensures { λ r. ⌜ (r ≡ true → now (a .entry) ≡ take len (now (b .entry))) × (now (a .entry) ≡ take len (now (b .entry)) → r ≡ true) ⌝ }
+    requires { len ≤ length b.now }
+    ensures { (result ≡ true → a.now ≡ take len b.now) × (a.now ≡ take len b.now → result ≡ true) }
 {
     if a.len() != len {
         return false;
@@ -29,8 +26,8 @@ fn same(a: &[u64], b: &[u64], len: usize) -> bool
 
 // Is it the tree of some set of pairs below n?
 pub fn well_formed(tree: &[u64], n: usize) -> bool
-    requires { ⌜ n ≤ maxRecords ⌝ }
-    ensures { λ r. ⌜ (r ≡ true → WellFormed n (now (tree .entry))) × (WellFormed n (now (tree .entry)) → r ≡ true) ⌝ }
+    requires { n ≤ max_records }
+    ensures { (result ≡ true → WellFormed n tree.now) × (WellFormed n tree.now → result ≡ true) }
 {
     if tree.len() == 0 {
         return true;

@@ -1,5 +1,7 @@
 // The answer of a pair question as printed pages (printing.rt), and the pairs read back from them (reading.rt). What pages are is defined in specs/Pages.antt,
 // what the two calls promise in specs/PageCalls.antt. Both go line by line, by the same functions that lay a line.
+#![tactic(auto)]
+
 mod printing;
 mod reading;
 

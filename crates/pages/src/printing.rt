@@ -1,34 +1,26 @@
 // The printer: it lays each line into the lent space.
-use crate::CELL_WIDTH;
-use crate::CELLS_WIDTH;
-use crate::LINE;
-use crate::LINE_PAIRS;
-use crate::NUMBER_WIDTH;
-use crate::PAGE_LINES;
-use crate::PAGE_PAIRS;
-use crate::PAIR_UNIT;
-use crate::PAIR_WORDS;
-use crate::RECORD_WIDTH;
-use crate::TEXT_WIDTH;
+ghost use Rattle.std.specs.Prelude.{◌≡◌, ◌+◌, ◌≤◌, ◌<◌, min, length, take};
+ghost use Rattle.book.specs.Causes.{max_records};
+ghost use Rattle.answers.specs.Answers.{Whole};
+ghost use Rattle.paths.specs.Questions.{over};
+ghost use Rattle.rowpairs.specs.Evaluation.{Held};
+ghost use Rattle.report.specs.Report.{decimal};
+ghost use Rattle.answers.specs.Written.{Wrote};
+ghost use Rattle.pages.specs.Pages.{blanks, right_aligned, record_cell, pair_cell, pair_line, head_line, pages};
+ghost use Rattle.pages.specs.PageCalls.{Prints};
+ghost use Rattle.pages.specs.Lines.{line_bytes, pair_words, most_lines, held, pairs_held, lines_of, PairLine, Gathering, Laying, Paging};
+ghost use Rattle.pages.specs.Lines.{Gathered, Laid};
+
+use crate::{
+    CELL_WIDTH, CELLS_WIDTH, LINE, LINE_PAIRS, NUMBER_WIDTH, PAGE_LINES, PAGE_PAIRS, PAIR_UNIT,
+    PAIR_WORDS, RECORD_WIDTH, TEXT_WIDTH,
+};
 use answers::Counted;
 use register::Register;
-ghost use mathlib.Core.Path.{_≡_};
-ghost use Prim.Native.Nat.{_+_, _≤_, _<_, min};
-ghost use lib.ListN.{length, take};
-ghost use Rattle·book.specs.Causes.{maxRecords};
-ghost use Rattle·answers.specs.Answers.{Whole};
-ghost use Rattle·paths.specs.Questions.{over};
-ghost use Rattle·rowpairs.specs.Evaluation.{Held};
-ghost use Rattle·report.specs.Report.{decimal};
-ghost use Rattle·answers.specs.Written.{Wrote};
-ghost use Rattle·pages·specs.specs.Pages.{blanks, rightAligned, recordCell, pairCell, pairLine, headLine, pages};
-ghost use Rattle·pages·specs.specs.PageCalls.{Prints};
-ghost use Rattle·pages·specs.specs.Lines.{lineBytes, pairWords, mostLines, held, pairsHeld, linesOf, PairLine, Gathering, Laying, Paging};
-ghost use Rattle·pages·specs.specs.Lines.{Gathered, Laid};
 
 fn put_blanks(count: usize, out: &mut [u8], at: usize) -> usize
-    requires { ⌜ at + count ≤ length (now out) ⌝ }
-    ensures { λ r. ⌜ Wrote at (blanks count) (now (out .entry)) (now (out .exit)) r ⌝ }
+    requires { at + count ≤ length out.old }
+    ensures { Wrote at (blanks count) out.old out.new result }
 {
     let mut i = 0;
     while i < count {
@@ -40,7 +32,7 @@ fn put_blanks(count: usize, out: &mut [u8], at: usize) -> usize
 
 // How many figures a number has.
 fn figures(k: u64) -> usize
-    ensures { λ r. ⌜ r ≡ length (decimal k) ⌝ }
+    ensures { result ≡ length (decimal k) }
 {
     let mut rest = k;
     let mut count = 1;
@@ -53,8 +45,8 @@ fn figures(k: u64) -> usize
 
 // A number's figures, right-aligned.
 fn put_right(width: usize, k: u64, out: &mut [u8], at: usize) -> usize
-    requires { ⌜ (length (decimal k) ≤ width) × (at + width ≤ length (now out)) ⌝ }
-    ensures { λ r. ⌜ Wrote at (rightAligned width k) (now (out .entry)) (now (out .exit)) r ⌝ }
+    requires { (length (decimal k) ≤ width) × (at + width ≤ length out.old) }
+    ensures { Wrote at (right_aligned width k) out.old out.new result }
 {
     let next = put_blanks(width - figures(k), out, at);
     report::put_decimal(k, out, next)
@@ -62,8 +54,8 @@ fn put_right(width: usize, k: u64, out: &mut [u8], at: usize) -> usize
 
 // A record's number and a blank.
 fn put_record(x: u32, out: &mut [u8], at: usize) -> usize
-    requires { ⌜ (x < maxRecords) × (at + 6 ≤ length (now out)) ⌝ }
-    ensures { λ r. ⌜ Wrote at (recordCell x) (now (out .entry)) (now (out .exit)) r ⌝ }
+    requires { (x < max_records) × (at + 6 ≤ length out.old) }
+    ensures { Wrote at (record_cell x) out.old out.new result }
 {
     let next = put_right(RECORD_WIDTH, x as u64, out, at);
     report::put_byte(b' ', out, next)
@@ -71,8 +63,8 @@ fn put_record(x: u32, out: &mut [u8], at: usize) -> usize
 
 // A pair.
 fn put_cell(w: u32, out: &mut [u8], at: usize) -> usize
-    requires { ⌜ (w < pairWords) × (at + 12 ≤ length (now out)) ⌝ }
-    ensures { λ r. ⌜ Wrote at (pairCell w) (now (out .entry)) (now (out .exit)) r ⌝ }
+    requires { (w < pair_words) × (at + 12 ≤ length out.old) }
+    ensures { Wrote at (pair_cell w) out.old out.new result }
 {
     let next = put_record(w / PAIR_UNIT, out, at);
     put_record(w % PAIR_UNIT, out, next)
@@ -80,8 +72,8 @@ fn put_cell(w: u32, out: &mut [u8], at: usize) -> usize
 
 // The line of the first `count` words.
 pub(crate) fn put_pair_line(words: &[u32], count: usize, out: &mut [u8], at: usize) -> usize
-    requires { ⌜ PairLine (now words) count at (now out) ⌝ }
-    ensures { λ r. ⌜ Wrote at (pairLine (take count (now (words .entry)))) (now (out .entry)) (now (out .exit)) r ⌝ }
+    requires { PairLine words.now count at out.old }
+    ensures { Wrote at (pair_line (take count words.now)) out.old out.new result }
 {
     let mut end = at;
     let mut i = 0;
@@ -95,7 +87,7 @@ pub(crate) fn put_pair_line(words: &[u32], count: usize, out: &mut [u8], at: usi
 
 // How many bytes of so long a text a head shows.
 fn shown_bytes(len: usize) -> usize
-    ensures { λ r. ⌜ r ≡ min 60 len ⌝ }
+    ensures { result ≡ min 60 len }
 {
     if TEXT_WIDTH < len {
         return TEXT_WIDTH;
@@ -105,8 +97,8 @@ fn shown_bytes(len: usize) -> usize
 
 // The head of a page, the first being 0.
 pub(crate) fn put_head_line(text: &[u8], page: usize, out: &mut [u8], at: usize) -> usize
-    requires { ⌜ (page ≤ mostLines) × (at + lineBytes ≤ length (now out)) ⌝ }
-    ensures { λ r. ⌜ Wrote at (headLine (now (text .entry)) page) (now (out .entry)) (now (out .exit)) r ⌝ }
+    requires { (page ≤ most_lines) × (at + line_bytes ≤ length out.old) }
+    ensures { Wrote at (head_line text.now page) out.old out.new result }
 {
     let shown = shown_bytes(text.len());
     let mut end = report::put_text(&text[..shown], out, at);
@@ -117,8 +109,8 @@ pub(crate) fn put_head_line(text: &[u8], page: usize, out: &mut [u8], at: usize)
 
 // How many lines so many pairs take.
 pub(crate) fn lines_of(pairs: usize) -> usize
-    requires { ⌜ pairs ≤ pairWords ⌝ }
-    ensures { λ r. ⌜ r ≡ linesOf pairs ⌝ }
+    requires { pairs ≤ pair_words }
+    ensures { result ≡ lines_of pairs }
 {
     if pairs == 0 {
         return 1;
@@ -127,6 +119,7 @@ pub(crate) fn lines_of(pairs: usize) -> usize
 }
 
 // Where a search for the pairs of a line ended, and how many it found.
+#[derive(Clone, Copy)]
 struct LineEnd {
     place: usize,
     count: usize,
@@ -134,8 +127,8 @@ struct LineEnd {
 
 // The next six pairs of a relation of n records from `from` on, or those that are left.
 fn gather(cells: &[u64], masks: &[u16], n: usize, from: usize, words: &mut [u32]) -> LineEnd
-    requires { ⌜ Gathering from (now words) n (now masks) ⌝ }
-    ensures { λ r. ⌜ Gathered (held (now (cells .entry)) (now (masks .entry)) n) from (now (words .exit)) (r .place) (r .count) ⌝ }
+    requires { Gathering from words.old n masks.now }
+    ensures { Gathered (held cells.now masks.now n) from words.new result.place result.count }
 {
     let mut count = 0;
     let mut place = from;
@@ -161,8 +154,8 @@ fn put_line(
     place: usize,
     out: &mut [u8],
 ) -> usize
-    requires { ⌜ Laying i place (now out) n (now masks) ⌝ }
-    ensures { λ r. ⌜ Laid (held (now (cells .entry)) (now (masks .entry)) n) (now (text .entry)) i place (now (out .entry)) (now (out .exit)) r ⌝ }
+    requires { Laying i place out.old n masks.now }
+    ensures { Laid (held cells.now masks.now n) text.now i place out.old out.new result }
 {
     if i % PAGE_LINES == 0 {
         put_head_line(text, i / PAGE_LINES, out, LINE * i);
@@ -177,9 +170,9 @@ fn put_line(
 
 // The pages of a relation's pairs, so many lines.
 fn put_pages(text: &[u8], cells: &[u64], masks: &[u16], n: usize, lines: usize, out: &mut [u8])
-    requires { ⌜ Paging (now cells) (now masks) n lines (now out) ⌝ }
-    ensures { λ _. ⌜ now (out .exit)
-        ≡ over (pages (now (text .entry)) (pairsHeld (held (now (cells .entry)) (now (masks .entry)) n))) (now (out .entry)) ⌝ }
+    requires { Paging cells.now masks.now n lines out.old }
+    ensures { out.new
+        ≡ over (pages text.now (pairs_held (held cells.now masks.now n))) out.old }
 {
     let mut place = 0;
     let mut i = 0;
@@ -191,8 +184,8 @@ fn put_pages(text: &[u8], cells: &[u64], masks: &[u16], n: usize, lines: usize, 
 
 // The same if the space can hold every page.
 fn lay_out(text: &[u8], cells: &[u64], masks: &[u16], n: usize, out: &mut [u8]) -> Counted
-    requires { ⌜ Held n (length (now cells)) × (n ≤ length (now masks)) ⌝ }
-    ensures { λ a. ⌜ Whole (pages (now (text .entry)) (pairsHeld (held (now (cells .entry)) (now (masks .entry)) n))) (now (out .entry)) (now (out .exit)) a ⌝ }
+    requires { Held n (length cells.now) × (n ≤ length masks.now) }
+    ensures { Whole (pages text.now (pairs_held (held cells.now masks.now n))) out.old out.new result }
 {
     let lines = lines_of(rowpairs::count_pairs(cells, masks, n));
     if out.len() < LINE * lines {
@@ -205,7 +198,7 @@ fn lay_out(text: &[u8], cells: &[u64], masks: &[u16], n: usize, out: &mut [u8]) 
 // The pages of a pair question's answer, written into the space. No list of pairs is lent: they go from the relation where it
 // was made straight to bytes.
 pub fn print(register: Register, text: &[u8], work: &mut [u64], pages: &mut [u8]) -> Counted
-    ensures { λ a. ⌜ Prints register (now (text .entry)) (length (now (work .entry))) (now (pages .entry)) (now (pages .exit)) a ⌝ }
+    ensures { Prints register text.now (length work.old) pages.old pages.new result }
 {
     let related = rowpairs::relate(register, text, work);
     let answer = related.answer;

@@ -1,34 +1,25 @@
 // The reader: it lays each line beside the lent pages.
-use crate::CELL_WIDTH;
-use crate::LINE;
-use crate::LINE_PAIRS;
-use crate::MOST_LINES;
-use crate::PAGE_LINES;
-use crate::PAIR_UNIT;
-use crate::PAST_PAIRS;
-use crate::RECORD_WIDTH;
-use crate::printing::lines_of;
-use crate::printing::put_head_line;
-use crate::printing::put_pair_line;
+ghost use Rattle.std.specs.Prelude.{◌≡◌, true, ◌+◌, ◌*◌, ◌≤◌, ◌<◌, length, take, drop};
+ghost use Rattle.paths.specs.Expressions.{Expr};
+ghost use Rattle.paths.specs.Grammar.{accepted};
+ghost use Rattle.paths.specs.Verdicts.{verdict};
+ghost use Rattle.paths.specs.Questions.{over};
+ghost use Rattle.answers.specs.Written.{Wrote};
+ghost use Rattle.pages.specs.Pages.{pair_line, head_line};
+ghost use Rattle.pages.specs.PageCalls.{ReadsPages};
+ghost use Rattle.pages.specs.Lines.{line_bytes, pair_words, most_lines, value, cell_word, cell_words, words_at, words_before, PairLine, Checking};
+ghost use Rattle.pages.specs.Lines.{Rising, Line, Judged};
+
+use crate::printing::{lines_of, put_head_line, put_pair_line};
+use crate::{
+    CELL_WIDTH, LINE, LINE_PAIRS, MOST_LINES, PAGE_LINES, PAIR_UNIT, PAST_PAIRS, RECORD_WIDTH,
+};
 use answers::Counted;
-ghost use mathlib.Core.Path.{_≡_};
-ghost use mathlib.Core.Bool.{true};
-ghost use Prim.Native.Nat.{_+_, _*_, _≤_, _<_};
-ghost use lib.ListN.{length, take, drop};
-ghost use Rattle·paths.specs.Expressions.{Expr};
-ghost use Rattle·paths.specs.Grammar.{accepted};
-ghost use Rattle·paths.specs.Verdicts.{verdict};
-ghost use Rattle·paths.specs.Questions.{over};
-ghost use Rattle·answers.specs.Written.{Wrote};
-ghost use Rattle·pages·specs.specs.Pages.{pairLine, headLine};
-ghost use Rattle·pages·specs.specs.PageCalls.{ReadsPages};
-ghost use Rattle·pages·specs.specs.Lines.{lineBytes, pairWords, mostLines, value, cellWord, cellWords, wordsAt, wordsBefore, PairLine, Checking};
-ghost use Rattle·pages·specs.specs.Lines.{Rising, Line, Judged};
 
 // The number in the five bytes of a record, blanks as 0.
 fn record_at(pages: &[u8], at: usize) -> u32
-    requires { ⌜ at + 5 ≤ length (now pages) ⌝ }
-    ensures { λ r. ⌜ (r ≡ value (take 5 (drop at (now (pages .entry))))) × (r < 200000) ⌝ }
+    requires { at + 5 ≤ length pages.now }
+    ensures { (result ≡ value (take 5 (drop at pages.now))) × (result < 200000) }
 {
     let mut v: u32 = 0;
     let mut i = 0;
@@ -41,16 +32,16 @@ fn record_at(pages: &[u8], at: usize) -> u32
 
 // The pair word in a cell.
 fn cell_at(pages: &[u8], at: usize) -> u32
-    requires { ⌜ at + 12 ≤ length (now pages) ⌝ }
-    ensures { λ r. ⌜ r ≡ cellWord (drop at (now (pages .entry))) ⌝ }
+    requires { at + 12 ≤ length pages.now }
+    ensures { result ≡ cell_word (drop at pages.now) }
 {
     record_at(pages, at) * PAIR_UNIT + record_at(pages, at + RECORD_WIDTH + 1)
 }
 
 // The pair words of a line's cells, up to a blank one; how many.
 fn cells_at(pages: &[u8], at: usize, words: &mut [u32]) -> usize
-    requires { ⌜ (at + lineBytes ≤ length (now pages)) × (length (now words) ≡ 6) ⌝ }
-    ensures { λ r. ⌜ (r ≤ 6) × (take r (now (words .exit)) ≡ cellWords 6 (drop at (now (pages .entry)))) ⌝ }
+    requires { (at + line_bytes ≤ length pages.now) × (length words.old ≡ 6) }
+    ensures { (result ≤ 6) × (take result words.new ≡ cell_words 6 (drop at pages.now)) }
 {
     let mut k = 0;
     while k < LINE_PAIRS {
@@ -66,9 +57,9 @@ fn cells_at(pages: &[u8], at: usize, words: &mut [u32]) -> usize
 
 // Is this the line of the pages?
 fn same_line(line: &[u8], pages: &[u8], at: usize) -> bool
-    requires { ⌜ (length (now line) ≡ 73) × (at + lineBytes ≤ length (now pages)) ⌝ }
-    ensures { λ r. ⌜ (r ≡ true → take 73 (drop at (now (pages .entry))) ≡ now (line .entry))
-        × (take 73 (drop at (now (pages .entry))) ≡ now (line .entry) → r ≡ true) ⌝ }
+    requires { (length line.now ≡ 73) × (at + line_bytes ≤ length pages.now) }
+    ensures { (result ≡ true → take 73 (drop at pages.now) ≡ line.now)
+        × (take 73 (drop at pages.now) ≡ line.now → result ≡ true) }
 {
     let mut i = 0;
     while i < LINE {
@@ -82,8 +73,8 @@ fn same_line(line: &[u8], pages: &[u8], at: usize) -> bool
 
 // The number after the last of the first `count` words, if they ascend from `low` on and are pair words; otherwise one past all those.
 fn rising(words: &[u32], count: usize, low: u32) -> u32
-    requires { ⌜ (count ≤ length (now words)) × (low ≤ pairWords) ⌝ }
-    ensures { λ r. ⌜ Rising low (take count (now (words .entry))) r ⌝ }
+    requires { (count ≤ length words.now) × (low ≤ pair_words) }
+    ensures { Rising low (take count words.now) result }
 {
     let mut next = low;
     let mut i = 0;
@@ -103,9 +94,9 @@ fn rising(words: &[u32], count: usize, low: u32) -> u32
 
 // Is the line of the pages the head of this page?
 fn is_head(text: &[u8], page: usize, pages: &[u8], at: usize) -> bool
-    requires { ⌜ (page ≤ mostLines) × (at + lineBytes ≤ length (now pages)) ⌝ }
-    ensures { λ r. ⌜ (r ≡ true → take 73 (drop at (now (pages .entry))) ≡ headLine (now (text .entry)) page)
-        × (take 73 (drop at (now (pages .entry))) ≡ headLine (now (text .entry)) page → r ≡ true) ⌝ }
+    requires { (page ≤ most_lines) × (at + line_bytes ≤ length pages.now) }
+    ensures { (result ≡ true → take 73 (drop at pages.now) ≡ head_line text.now page)
+        × (take 73 (drop at pages.now) ≡ head_line text.now page → result ≡ true) }
 {
     let mut line: [u8; 73] = [0; 73];
     put_head_line(text, page, &mut line, 0);
@@ -114,9 +105,9 @@ fn is_head(text: &[u8], page: usize, pages: &[u8], at: usize) -> bool
 
 // Is it the line of the first `count` words?
 fn is_pair_line(words: &[u32], count: usize, pages: &[u8], at: usize) -> bool
-    requires { ⌜ PairLine (now words) count at (now pages) ⌝ }
-    ensures { λ r. ⌜ (r ≡ true → take 73 (drop at (now (pages .entry))) ≡ pairLine (take count (now (words .entry))))
-        × (take 73 (drop at (now (pages .entry))) ≡ pairLine (take count (now (words .entry))) → r ≡ true) ⌝ }
+    requires { PairLine words.now count at pages.now }
+    ensures { (result ≡ true → take 73 (drop at pages.now) ≡ pair_line (take count words.now))
+        × (take 73 (drop at pages.now) ≡ pair_line (take count words.now) → result ≡ true) }
 {
     let mut line: [u8; 73] = [0; 73];
     put_pair_line(words, count, &mut line, 0);
@@ -124,6 +115,7 @@ fn is_pair_line(words: &[u32], count: usize, pages: &[u8], at: usize) -> bool
 }
 
 // What a line was found to be: how many pairs are on it, and the number after them; a number past all pair words if the line does not stand.
+#[derive(Clone, Copy)]
 struct Checked {
     count: usize,
     next: u32,
@@ -131,8 +123,8 @@ struct Checked {
 
 // How many pairs pair line i of so many lines has at least: six if it is not the last.
 fn least_pairs(i: usize, lines: usize) -> usize
-    requires { ⌜ i < lines ⌝ }
-    ensures { λ r. ⌜ ((i + 1 < lines) → r ≡ 6) × (r ≤ 6) × ((0 < r) → (i + 1 < lines)) ⌝ }
+    requires { i < lines }
+    ensures { ((i + 1 < lines) → result ≡ 6) × (result ≤ 6) × ((0 < result) → (i + 1 < lines)) }
 {
     if i + 1 < lines {
         return LINE_PAIRS;
@@ -142,8 +134,8 @@ fn least_pairs(i: usize, lines: usize) -> usize
 
 // Line i of so many, where the pairs before it are below `low`.
 fn check_line(text: &[u8], pages: &[u8], i: usize, lines: usize, low: u32) -> Checked
-    requires { ⌜ Checking (now pages) i lines low ⌝ }
-    ensures { λ r. ⌜ Line (now (text .entry)) (now (pages .entry)) i lines low (r .count) (r .next) ⌝ }
+    requires { Checking pages.now i lines low }
+    ensures { Line text.now pages.now i lines low result.count result.next }
 {
     let fallen = Checked {
         count: 0,
@@ -174,6 +166,7 @@ fn check_line(text: &[u8], pages: &[u8], i: usize, lines: usize, low: u32) -> Ch
 }
 
 // What lent pages were found to be: the pages of the text and so many pairs, or of no list.
+#[derive(Clone, Copy)]
 enum Judgement {
     Listing(usize),
     Broken,
@@ -181,7 +174,7 @@ enum Judgement {
 
 // Are these the pages of the text and some ascending list of different pairs?
 fn judge(text: &[u8], pages: &[u8]) -> Judgement
-    ensures { λ r. ⌜ Judged (now (text .entry)) (now (pages .entry)) r ⌝ }
+    ensures { Judged text.now pages.now result }
 {
     let lines = pages.len() / LINE;
     if LINE * lines != pages.len() {
@@ -210,8 +203,8 @@ fn judge(text: &[u8], pages: &[u8]) -> Judgement
 
 // The pair words on line i.
 fn list_line(pages: &[u8], i: usize, list: &mut [u32], at: usize) -> usize
-    requires { ⌜ (73 * i + 73 ≤ length (now pages)) × (at + length (wordsAt (now pages) i) ≤ length (now list)) ⌝ }
-    ensures { λ r. ⌜ Wrote at (wordsAt (now (pages .entry)) i) (now (list .entry)) (now (list .exit)) r ⌝ }
+    requires { (73 * i + 73 ≤ length pages.now) × (at + length (words_at pages.now i) ≤ length list.old) }
+    ensures { Wrote at (words_at pages.now i) list.old list.new result }
 {
     if i % PAGE_LINES == 0 {
         return at;
@@ -223,8 +216,8 @@ fn list_line(pages: &[u8], i: usize, list: &mut [u32], at: usize) -> usize
 
 // The pair words on all lines.
 fn list_lines(pages: &[u8], lines: usize, list: &mut [u32])
-    requires { ⌜ (lineBytes * lines ≤ length (now pages)) × (length (wordsBefore (now pages) lines) ≤ length (now list)) ⌝ }
-    ensures { λ _. ⌜ now (list .exit) ≡ over (wordsBefore (now (pages .entry)) lines) (now (list .entry)) ⌝ }
+    requires { (line_bytes * lines ≤ length pages.now) × (length (words_before pages.now lines) ≤ length list.old) }
+    ensures { list.new ≡ over (words_before pages.now lines) list.old }
 {
     let mut end = 0;
     let mut i = 0;
@@ -236,8 +229,8 @@ fn list_lines(pages: &[u8], lines: usize, list: &mut [u32])
 
 // The pairs of pages, the expression being accepted.
 fn read_accepted(text: &[u8], pages: &[u8], list: &mut [u32]) -> Counted
-    ensures { λ a. ⌜ ((e : Expr) → verdict (now (text .entry)) ≡ accepted e
-        → ReadsPages (now (text .entry)) (now (pages .entry)) (now (list .entry)) (now (list .exit)) a) ⌝ }
+    ensures { (e : Expr) → verdict text.now ≡ accepted e
+        → ReadsPages text.now pages.now list.old list.new result }
 {
     let judgement = judge(text, pages);
     match judgement {
@@ -254,7 +247,7 @@ fn read_accepted(text: &[u8], pages: &[u8], list: &mut [u32]) -> Counted
 
 // The pairs that pages show, ascending, if they are the pages of the expression and some list. The first pass judges, the second writes.
 pub fn read_pages(text: &[u8], pages: &[u8], list: &mut [u32]) -> Counted
-    ensures { λ a. ⌜ ReadsPages (now (text .entry)) (now (pages .entry)) (now (list .entry)) (now (list .exit)) a ⌝ }
+    ensures { ReadsPages text.now pages.now list.old list.new result }
 {
     let reading = reader::read(text);
     let answer = reading.answer;

@@ -1,27 +1,28 @@
 // Pair questions by trees: the code of an expression is run on a stack of operands, whose k2-trees lie one after another in the lent work. The value of its
 // last number is left in rows of bits, whose pairs are counted and listed. What a question promises is stated in crate query (specs/Asking.antt).
-ghost use mathlib.Core.Path.{_≡_};
-ghost use mathlib.Core.List.{List};
-ghost use Prim.Native.Nat.{ℕ, _-_, _<_, _≤_};
-ghost use lib.ListN.{length, take};
-ghost use Rattle·book.specs.Book.{Book};
-ghost use Rattle·book.specs.Causes.{maxRecords};
-ghost use Rattle·k2.specs.Bits.{bitAt};
-ghost use Rattle·k2.specs.Trees.{treeUnit};
-ghost use Rattle·paths.specs.Expressions.{Expr};
-ghost use Rattle·paths.specs.Grammar.{accepted};
-ghost use Rattle·paths.specs.Chains.{asked};
-ghost use Rattle·paths.specs.Relations.{cells};
-ghost use Rattle·paths.specs.Questions.{by-trees};
-ghost use Rattle·rows.specs.Rows.{flat};
-ghost use Rattle·query.specs.Evaluation.{Ready, Coded, Lettered};
-ghost use Rattle·query.specs.Asking.{AsksFor, AsksPairs};
-ghost use Rattle·pairs·specs.specs.Evaluation.{Holding, lettersOperand, onTop, belowTop, takenOne, takenTwo, pushed, turned, Placed, Space};
-ghost use Rattle·pairs·specs.specs.Steps.{Takes, Goes, Going, Ends};
+#![tactic(auto)]
+
+ghost use Rattle.std.specs.Prelude.{◌≡◌, List, ℕ, ◌-◌, ◌<◌, ◌≤◌, length, take};
+ghost use Rattle.book.specs.Book.{Book};
+ghost use Rattle.book.specs.Causes.{max_records};
+ghost use Rattle.k2.specs.Bits.{bit_at};
+ghost use Rattle.k2.specs.Trees.{tree_unit};
+ghost use Rattle.paths.specs.Expressions.{Expr};
+ghost use Rattle.paths.specs.Grammar.{accepted};
+ghost use Rattle.paths.specs.Chains.{asked};
+ghost use Rattle.paths.specs.Relations.{cells};
+ghost use Rattle.paths.specs.Questions.{by_trees};
+ghost use Rattle.rows.specs.Rows.{flat};
+ghost use Rattle.query.specs.Evaluation.{Ready, Coded, Lettered};
+ghost use Rattle.query.specs.Asking.{AsksFor, AsksPairs};
+ghost use Rattle.pairs.specs.Evaluation.{Holding, letters_operand, on_top, below_top, taken_one, taken_two, pushed, turned, Placed, Space};
+ghost use Rattle.pairs.specs.Steps.{Takes, Goes, Going, Ends};
+
 use answers::Counted;
 use reader::Item;
 
 // The operands that wait, the first put on in front; how many they are, and where their trees end in the work.
+#[derive(Clone, Copy)]
 struct Stack {
     operands: [tree::Operand; 19],
     count: usize,
@@ -29,6 +30,7 @@ struct Stack {
 }
 
 // An item of the code with the operands that it takes off the stack, as a term; where their trees begin in the work, and how many operands stay.
+#[derive(Clone, Copy)]
 struct Taken {
     term: tree::Term,
     start: usize,
@@ -37,8 +39,8 @@ struct Taken {
 
 // A size, cut off at D. Of a register's own links no tree is longer.
 fn bounded(size: usize, n: usize) -> usize
-    requires { ⌜ n ≤ maxRecords ⌝ }
-    ensures { λ r. ⌜ (r ≤ treeUnit n) × (size ≤ treeUnit n → r ≡ size) ⌝ }
+    requires { n ≤ max_records }
+    ensures { (result ≤ tree_unit n) × (size ≤ tree_unit n → result ≡ size) }
 {
     let most = tree::tree_unit(n);
     if most < size {
@@ -49,7 +51,7 @@ fn bounded(size: usize, n: usize) -> usize
 
 // The operand of a symbol: the links of its letters, and no tree.
 fn letters(forward: u32, against: u32) -> tree::Operand
-    ensures { λ r. ⌜ r ≡ lettersOperand forward against ⌝ }
+    ensures { result ≡ letters_operand forward against }
 {
     tree::Operand {
         size: 0,
@@ -61,8 +63,8 @@ fn letters(forward: u32, against: u32) -> tree::Operand
 
 // One operand more.
 fn push(stack: Stack, operand: tree::Operand) -> Stack
-    requires { ⌜ (stack .count < 19) × (length (stack .operands) ≡ 19) ⌝ }
-    ensures { λ r. ⌜ r ≡ pushed operand (stack .count) (stack .end) stack ⌝ }
+    requires { (stack.count < 19) × (length stack.operands ≡ 19) }
+    ensures { result ≡ pushed operand stack.count stack.end stack }
 {
     let mut next = stack;
     let count = next.count;
@@ -73,8 +75,8 @@ fn push(stack: Stack, operand: tree::Operand) -> Stack
 
 // `^`: the operand on top is read with the other sense, and nothing is written.
 fn inverse(stack: Stack) -> Stack
-    requires { ⌜ (1 ≤ stack .count) × (stack .count ≤ 19) × (length (stack .operands) ≡ 19) ⌝ }
-    ensures { λ r. ⌜ r ≡ turned stack ⌝ }
+    requires { (1 ≤ stack.count) × (stack.count ≤ 19) × (length stack.operands ≡ 19) }
+    ensures { result ≡ turned stack }
 {
     let mut next = stack;
     let top = next.count - 1;
@@ -85,8 +87,8 @@ fn inverse(stack: Stack) -> Stack
 
 // The operand on top, with an operation on it.
 fn on_one(stack: Stack, operation: tree::Operation) -> Taken
-    requires { ⌜ Holding 1 stack ⌝ }
-    ensures { λ r. ⌜ r ≡ takenOne operation stack ⌝ }
+    requires { Holding 1 stack }
+    ensures { result ≡ taken_one operation stack }
 {
     let top = stack.count - 1;
     let second = stack.operands[top];
@@ -105,8 +107,8 @@ fn on_one(stack: Stack, operation: tree::Operation) -> Taken
 
 // The two operands on top, with an operation on them.
 fn on_two(stack: Stack, operation: tree::Operation) -> Taken
-    requires { ⌜ Holding 2 stack × (belowTop stack .size ≤ stack .end - onTop stack .size) ⌝ }
-    ensures { λ r. ⌜ r ≡ takenTwo operation stack ⌝ }
+    requires { Holding 2 stack × ((below_top stack).size ≤ stack.end - (on_top stack).size) }
+    ensures { result ≡ taken_two operation stack }
 {
     let top = stack.count - 1;
     let second = stack.operands[top];
@@ -128,8 +130,8 @@ fn on_two(stack: Stack, operation: tree::Operation) -> Taken
 // An item with the operands that it takes off the stack. Letters take none, and are a union with nothing; so is `^`, its operand being read with the other
 // sense.
 fn take_off(stack: Stack, item: Item) -> Taken
-    requires { ⌜ Ready item (stack .count) × ((d : ℕ) × Placed d stack) ⌝ }
-    ensures { λ r. ⌜ ((d : ℕ) → Placed d stack → Takes d item stack r) ⌝ }
+    requires { Ready item stack.count × ((d : ℕ) × Placed d stack) }
+    ensures { (d : ℕ) → Placed d stack → Takes d item stack result }
 {
     match item {
         Item::Letters(forward, against) => {
@@ -163,8 +165,8 @@ fn operator(
     stack: Stack,
     item: Item,
 ) -> Stack
-    requires { ⌜ Space n (now work) (now used) (now rows) × Ready item (stack .count) × Placed (treeUnit n) stack ⌝ }
-    ensures { λ r. ⌜ Goes n (now (links .entry)) (now (used .entry)) item (now (work .entry)) (now (work .exit)) stack r ⌝ }
+    requires { Space n work.old used.now rows.old × Ready item stack.count × Placed (tree_unit n) stack }
+    ensures { Goes n links.now used.now item work.old work.new stack result }
 {
     let taken = take_off(stack, item);
     let term = taken.term;
@@ -195,8 +197,8 @@ fn step(
     stack: Stack,
     item: Item,
 ) -> Stack
-    requires { ⌜ Space n (now work) (now used) (now rows) × Ready item (stack .count) × Placed (treeUnit n) stack ⌝ }
-    ensures { λ r. ⌜ Goes n (now (links .entry)) (now (used .entry)) item (now (work .entry)) (now (work .exit)) stack r ⌝ }
+    requires { Space n work.old used.now rows.old × Ready item stack.count × Placed (tree_unit n) stack }
+    ensures { Goes n links.now used.now item work.old work.new stack result }
 {
     match item {
         Item::Letters(forward, against) => push(stack, letters(forward, against)),
@@ -214,8 +216,8 @@ fn evaluate(
     rows: &mut [u64],
     code: &[u64],
 ) -> Stack
-    requires { ⌜ Space n (now work) (now used) (now rows) × ((s : List ℕ) × (e : Expr) × Coded s e (now code)) ⌝ }
-    ensures { λ r. ⌜ Going n (now (links .entry)) (now (used .entry)) (now (code .entry)) (now (work .exit)) r (length (now (code .entry)) - 1) ⌝ }
+    requires { Space n work.old used.now rows.old × ((s : List ℕ) × (e : Expr) × Coded s e code.now) }
+    ensures { Going n links.now used.now code.now work.new result (length code.now - 1) }
 {
     let mut stack = Stack {
         operands: [tree::no_operand(); 19],
@@ -241,8 +243,8 @@ fn last(
     stack: Stack,
     item: Item,
 )
-    requires { ⌜ Space n (now work) (now used) (now rows) × Ready item (stack .count) × Placed (treeUnit n) stack ⌝ }
-    ensures { λ _. ⌜ Ends n (now (links .entry)) (now (used .entry)) item (now (work .entry)) stack (now (rows .exit)) ⌝ }
+    requires { Space n work.now used.now rows.old × Ready item stack.count × Placed (tree_unit n) stack }
+    ensures { Ends n links.now used.now item work.now stack rows.new }
 {
     let taken = take_off(stack, item);
     let term = taken.term;
@@ -252,9 +254,9 @@ fn last(
 
 // The whole code: its value is left in rows.
 fn run(work: &mut [u64], n: usize, links: &[u32], used: &[u64], rows: &mut [u64], code: &[u64])
-    requires { ⌜ Space n (now work) (now used) (now rows) × ((s : List ℕ) × (e : Expr) × Coded s e (now code)) ⌝ }
-    ensures { λ _. ⌜ ((b : Book) → Lettered b n (now (links .entry)) (bitAt (now (used .entry))) → (s : List ℕ) (e : Expr) → Coded s e (now (code .entry))
-        → bitAt (now (rows .exit)) ≡ flat (cells (asked b) e)) ⌝ }
+    requires { Space n work.old used.now rows.old × ((s : List ℕ) × (e : Expr) × Coded s e code.now) }
+    ensures { (b : Book) → Lettered b n links.now (bit_at used.now) → (s : List ℕ) (e : Expr) → Coded s e code.now
+        → bit_at rows.new ≡ flat (cells (asked b) e) }
 {
     let stack = evaluate(work, n, links, used, rows, code);
     let item = reader::item_of(code[code.len() - 1]);
@@ -269,9 +271,9 @@ fn of_code(
     work: &mut [u64],
     list: &mut [u32],
 ) -> Counted
-    requires { ⌜ (len ≤ length code) × ((s : List ℕ) × (e : Expr) × Coded s e (take len code)) ⌝ }
-    ensures { λ a. ⌜ ((s : List ℕ) (e : Expr) → Coded s e (take len code)
-        → AsksFor by-trees register (accepted e) (length (now (work .entry))) (now (list .entry)) (now (list .exit)) a) ⌝ }
+    requires { (len ≤ length code) × ((s : List ℕ) × (e : Expr) × Coded s e (take len code)) }
+    ensures { (s : List ℕ) (e : Expr) → Coded s e (take len code)
+        → AsksFor by_trees register (accepted e) (length work.old) list.old list.new result }
 {
     let n = register.size();
     if work.len() < query::pairs_work(n) {
@@ -296,7 +298,7 @@ pub fn pairs(
     work: &mut [u64],
     list: &mut [u32],
 ) -> Counted
-    ensures { λ a. ⌜ AsksPairs register (now (text .entry)) (length (now (work .entry))) (now (list .entry)) (now (list .exit)) a ⌝ }
+    ensures { AsksPairs register text.now (length work.old) list.old list.new result }
 {
     let reading = reader::read(text);
     let answer = reading.answer;

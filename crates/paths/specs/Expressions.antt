@@ -2,20 +2,17 @@
 --   Letter          a letter of a word: a label, plain or inverted. A step that crosses a link of the label forward spells it plain,
 --                   one against the link's sense spells it inverted
 --   Symbol          what may stand where a letter may: a label, 0 to 25 for a to z; or a negated set, with its members
---   sameLetter a b  whether they are one letter
---   hasSense b w    whether a letter of w is inverted, for b true, or plain, for b false
---   standsFor s a   whether the letter a is one that the symbol s stands for. A label stands for itself, plain. A negated set that has a plain member
+--   same_letter a b  whether they are one letter
+--   has_sense b w    whether a letter of w is inverted, for b true, or plain, for b false
+--   stands_for s a   whether the letter a is one that the symbol s stands for. A label stands for itself, plain. A negated set that has a plain member
 --                   stands for every plain letter that is none of its members; one that has an inverted member, for every inverted letter that is none
 --   Expr            expressions. A group is kept, since the nesting of groups is counted
 --   letters e       how many letters e has, a set being one
 --   depth e         how deep its groups are nested
 -- Assumes nothing: these are definitions.
-use mathlib.Core.List.{List, [], _∷_}
-use mathlib.Core.Bool.{Bool, true, false, not, _&&_, _||_}
-use Prim.Native.Nat.{ℕ, _+_, max}
-use lib.Dec.{eqb, ltb}
-use Rattle·book.specs.Basics.{has}
-use Rattle·book.specs.Causes.{labels}
+use Rattle.std.specs.Prelude.{List, [], ◌∷◌, Bool, true, false, not, ◌&&◌, ◌||◌, ℕ, ◌+◌, max, eqb, ltb}
+use Rattle.book.specs.Basics.{has}
+use Rattle.book.specs.Causes.{labels}
 
 pub record Letter : Type 0 where
   pub label : ℕ
@@ -23,22 +20,22 @@ pub record Letter : Type 0 where
 
 pub data Symbol : Type 0 where
   letter : ℕ → Symbol
-  noneOf : List Letter → Symbol
+  none_of : List Letter → Symbol
 
-abbrev pub sameSense : Bool → Bool → Bool
-sameSense true b = b
-sameSense false b = not b
+abbrev pub same_sense : Bool → Bool → Bool
+same_sense true b = b
+same_sense false b = not b
 
-abbrev pub sameLetter : Letter → Letter → Bool
-sameLetter a b = eqb (a .label) (b .label) && sameSense (a .inverted) (b .inverted)
+abbrev pub same_letter : Letter → Letter → Bool
+same_letter a b = eqb a.label b.label && same_sense a.inverted b.inverted
 
-unfoldable pub hasSense : Bool → List Letter → Bool
-hasSense b [] = false
-hasSense b (a ∷ w) = sameSense (a .inverted) b || hasSense b w
+unfoldable pub has_sense : Bool → List Letter → Bool
+has_sense b [] = false
+has_sense b (a ∷ w) = same_sense a.inverted b || has_sense b w
 
-unfoldable pub standsFor : Symbol → Letter → Bool
-standsFor (letter k) a = eqb (a .label) k && not (a .inverted)
-standsFor (noneOf w) a = ltb (a .label) labels && (hasSense (a .inverted) w && not (has sameLetter a w))
+unfoldable pub stands_for : Symbol → Letter → Bool
+stands_for (letter k) a = eqb a.label k && not a.inverted
+stands_for (none_of w) a = ltb a.label labels && (has_sense a.inverted w && not (has same_letter a w))
 
 pub data Expr : Type 0 where
   symbol : Symbol → Expr

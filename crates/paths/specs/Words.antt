@@ -1,23 +1,21 @@
 -- The words of an expression.
---   inverseLetter a plain and inverted exchanged
+--   inverse_letter a plain and inverted exchanged
 --   backwards w     the word w read backwards, with plain and inverted exchanged
 --   Words e w       w is a word of e
 -- Assumes nothing: these are definitions.
-use mathlib.Core.Path.{_≡_}
-use mathlib.Core.List.{List, [], _∷_, _++_}
-use mathlib.Core.Bool.{true, not}
-use Rattle·paths·specs.specs.Expressions.{Letter, Symbol, standsFor, Expr, symbol, group, inverse, star, plus, optional, alternative, sequence}
+use Rattle.std.specs.Prelude.{◌≡◌, List, [], ◌∷◌, ◌++◌, true, not}
+use Rattle.paths.specs.Expressions.{Letter, Symbol, stands_for, Expr, symbol, group, inverse, star, plus, optional, alternative, sequence}
 
-abbrev pub inverseLetter : Letter → Letter
-inverseLetter a = record { label = a .label; inverted = not (a .inverted) }
+abbrev pub inverse_letter : Letter → Letter
+inverse_letter a = record { label = a.label; inverted = not a.inverted }
 
 unfoldable pub backwards : List Letter → List Letter
 backwards [] = []
-backwards (a ∷ w) = backwards w ++ (inverseLetter a ∷ [])
+backwards (a ∷ w) = backwards w ++ (inverse_letter a ∷ [])
 
 pub data Words : Expr → List Letter → Type 0 where
   -- a letter has one word, itself
-  itself : {s : Symbol} {a : Letter} → standsFor s a ≡ true → Words (symbol s) (a ∷ [])
+  itself : {s : Symbol} {a : Letter} → stands_for s a ≡ true → Words (symbol s) (a ∷ [])
   inside : {e : Expr} {w : List Letter} → Words e w → Words (group e) w
   -- ^ has each word of what it stands before, backwards
   reversed : {e : Expr} {w : List Letter} → Words e w → Words (inverse e) (backwards w)
@@ -30,8 +28,8 @@ pub data Words : Expr → List Letter → Type 0 where
   once : {e : Expr} {w : List Letter} → Words e w → Words (plus e) w
   again : {e : Expr} {v w : List Letter} → Words e v → Words (plus e) w → Words (plus e) (v ++ w)
   -- * these and the empty word
-  star-none : {e : Expr} → Words (star e) []
-  star-some : {e : Expr} {w : List Letter} → Words (plus e) w → Words (star e) w
+  star_none : {e : Expr} → Words (star e) []
+  star_some : {e : Expr} {w : List Letter} → Words (plus e) w → Words (star e) w
   -- ? the part's words and the empty word
-  optional-none : {e : Expr} → Words (optional e) []
-  optional-once : {e : Expr} {w : List Letter} → Words e w → Words (optional e) w
+  optional_none : {e : Expr} → Words (optional e) []
+  optional_once : {e : Expr} {w : List Letter} → Words e w → Words (optional e) w

@@ -1,1 +1,5 @@
+pub mod AskingLaws
+pub mod EvaluationLaws
+pub mod LetterLaws
+pub mod WorkLaws
 pub mod UsedLaws

@@ -1,71 +1,69 @@
 -- The postfix code of an expression: its numbers, and what running it on a stack gives.
---   lettersNumber forward against
+--   letters_number forward against
 --                   the number of a symbol that stands for the letters of the two sets
---   itemOf i        what the number i of a code is: a symbol's letters, or an operator
+--   item_of i        what the number i of a code is: a symbol's letters, or an operator
 --   code e          each operator's number after its operands; a symbol has one number, a group none of its own
 --   Algebra D       values of any kind D: one for each set of letters, and what each operator makes of values
 --   value A e       an expression's value
 --   does A x st     what an item x does to a stack, its top first
 --   run A c st      what a code does to a stack
 -- Assumes nothing: these are definitions.
-use mathlib.Core.List.{List, [], _∷_, _++_}
-use Prim.Native.Nat.{ℕ, _+_, _-_, _*_, _/_, _%_}
-use lib.Dec.{eqb, ltb}
-use Rattle·book.specs.Basics.{pick}
-use Rattle·paths.specs.Expressions.{standsFor, Expr, symbol, group, inverse, star, plus, optional, alternative, sequence}
-use Rattle·reader·specs.specs.declared.items.Item.{Item}
-use Rattle·reader·specs.specs.declared.items.Item.the-variants.{Letters, Inverse, Star, Plus, Optional, Alternative, Sequence}
-use Rattle·reader·specs.specs.Letters.{forwardOf, againstOf}
+use Rattle.std.specs.Prelude.{List, [], ◌∷◌, ◌++◌, ℕ, ◌+◌, ◌-◌, ◌*◌, ◌/◌, ◌%◌, eqb, ltb}
+use Rattle.book.specs.Basics.{pick}
+use Rattle.paths.specs.Expressions.{stands_for, Expr, symbol, group, inverse, star, plus, optional, alternative, sequence}
+use Rattle.reader.specs.declared.items.Item.{Item}
+use Rattle.reader.specs.declared.items.Item.TheVariants.{Letters, Inverse, Star, Plus, Optional, Alternative, Sequence}
+use Rattle.reader.specs.Letters.{forward_of, against_of}
 
 -- the operators' numbers, those on one operand first
-abbrev pub op-inverse : ℕ
-op-inverse = 0
+abbrev pub op_inverse : ℕ
+op_inverse = 0
 
-abbrev pub op-star : ℕ
-op-star = 1
+abbrev pub op_star : ℕ
+op_star = 1
 
-abbrev pub op-plus : ℕ
-op-plus = 2
+abbrev pub op_plus : ℕ
+op_plus = 2
 
-abbrev pub op-optional : ℕ
-op-optional = 3
+abbrev pub op_optional : ℕ
+op_optional = 3
 
-abbrev pub op-alternative : ℕ
-op-alternative = 4
+abbrev pub op_alternative : ℕ
+op_alternative = 4
 
-abbrev pub op-sequence : ℕ
-op-sequence = 5
+abbrev pub op_sequence : ℕ
+op_sequence = 5
 
 -- the first number of a symbol, which stands for no letter
-abbrev pub first-letters : ℕ
-first-letters = 8
+abbrev pub first_letters : ℕ
+first_letters = 8
 
 -- how many sets of the 26 labels there are
-abbrev pub label-sets : ℕ
-label-sets = 67108864
+abbrev pub label_sets : ℕ
+label_sets = 67108864
 
-unfoldable pub lettersNumber : ℕ → ℕ → ℕ
-lettersNumber forward against = first-letters + forward + against * label-sets
+unfoldable pub letters_number : ℕ → ℕ → ℕ
+letters_number forward against = first_letters + forward + against * label_sets
 
-unfoldable pub itemOf : ℕ → Item
-itemOf i =
-    pick (eqb i op-inverse) Inverse
-    (pick (eqb i op-star) Star
-    (pick (eqb i op-plus) Plus
-    (pick (eqb i op-optional) Optional
-    (pick (eqb i op-alternative) Alternative
-    (pick (ltb i first-letters) Sequence
-    (Letters ((i - first-letters) % label-sets) ((i - first-letters) / label-sets % label-sets)))))))
+unfoldable pub item_of : ℕ → Item
+item_of i =
+    pick (eqb i op_inverse) Inverse
+    (pick (eqb i op_star) Star
+    (pick (eqb i op_plus) Plus
+    (pick (eqb i op_optional) Optional
+    (pick (eqb i op_alternative) Alternative
+    (pick (ltb i first_letters) Sequence
+    (Letters ((i - first_letters) % label_sets) ((i - first_letters) / label_sets % label_sets)))))))
 
 unfoldable pub code : Expr → List ℕ
-code (symbol s) = lettersNumber (forwardOf (standsFor s)) (againstOf (standsFor s)) ∷ []
+code (symbol s) = letters_number (forward_of (stands_for s)) (against_of (stands_for s)) ∷ []
 code (group e) = code e
-code (inverse e) = code e ++ (op-inverse ∷ [])
-code (star e) = code e ++ (op-star ∷ [])
-code (plus e) = code e ++ (op-plus ∷ [])
-code (optional e) = code e ++ (op-optional ∷ [])
-code (alternative e f) = (code e ++ code f) ++ (op-alternative ∷ [])
-code (sequence e f) = (code e ++ code f) ++ (op-sequence ∷ [])
+code (inverse e) = code e ++ (op_inverse ∷ [])
+code (star e) = code e ++ (op_star ∷ [])
+code (plus e) = code e ++ (op_plus ∷ [])
+code (optional e) = code e ++ (op_optional ∷ [])
+code (alternative e f) = (code e ++ code f) ++ (op_alternative ∷ [])
+code (sequence e f) = (code e ++ code f) ++ (op_sequence ∷ [])
 
 pub record Algebra (D : Type 0) : Type 0 where
   pub of : ℕ → ℕ → D
@@ -78,34 +76,34 @@ pub record Algebra (D : Type 0) : Type 0 where
 
 module _ {D : Type 0} (A : Algebra D) where
   unfoldable pub value : Expr → D
-  value (symbol s) = A .of (forwardOf (standsFor s)) (againstOf (standsFor s))
+  value (symbol s) = A.of (forward_of (stands_for s)) (against_of (stands_for s))
   value (group e) = value e
-  value (inverse e) = A .inverted (value e)
-  value (star e) = A .starred (value e)
-  value (plus e) = A .repeated (value e)
-  value (optional e) = A .maybe (value e)
-  value (alternative e f) = A .either (value e) (value f)
-  value (sequence e f) = A .followed (value e) (value f)
+  value (inverse e) = A.inverted (value e)
+  value (star e) = A.starred (value e)
+  value (plus e) = A.repeated (value e)
+  value (optional e) = A.maybe (value e)
+  value (alternative e f) = A.either (value e) (value f)
+  value (sequence e f) = A.followed (value e) (value f)
 
   -- an operator on the top value, and on the two top values
-  abbrev pub on-one : (D → D) → List D → List D
-  on-one f [] = []
-  on-one f (a ∷ st) = f a ∷ st
+  abbrev pub on_one : (D → D) → List D → List D
+  on_one f [] = []
+  on_one f (a ∷ st) = f a ∷ st
 
-  abbrev pub on-two : (D → D → D) → List D → List D
-  on-two f [] = []
-  on-two f (b ∷ []) = []
-  on-two f (b ∷ a ∷ st) = f a b ∷ st
+  abbrev pub on_two : (D → D → D) → List D → List D
+  on_two f [] = []
+  on_two f (b ∷ []) = []
+  on_two f (b ∷ a ∷ st) = f a b ∷ st
 
   unfoldable pub does : Item → List D → List D
-  does (Letters forward against) st = A .of forward against ∷ st
-  does Inverse st = on-one (A .inverted) st
-  does Star st = on-one (A .starred) st
-  does Plus st = on-one (A .repeated) st
-  does Optional st = on-one (A .maybe) st
-  does Alternative st = on-two (A .either) st
-  does Sequence st = on-two (A .followed) st
+  does (Letters forward against) st = A.of forward against ∷ st
+  does Inverse st = on_one A.inverted st
+  does Star st = on_one A.starred st
+  does Plus st = on_one A.repeated st
+  does Optional st = on_one A.maybe st
+  does Alternative st = on_two A.either st
+  does Sequence st = on_two A.followed st
 
   unfoldable pub run : List ℕ → List D → List D
   run [] st = st
-  run (i ∷ c) st = run c (does (itemOf i) st)
+  run (i ∷ c) st = run c (does (item_of i) st)

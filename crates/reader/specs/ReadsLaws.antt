@@ -1,69 +1,67 @@
 -- What a reading tells its callers.
---   reads-number    the answer's number is that of the verdict's cause, or 0
---   reads-as        what is read of a text that is to be accepted
---   reads-accepted  an accepted text is that of an expression, whose code the array begins with
---   reads-refused   a refused one has a cause, whose number is given, and is that of no expression within the limits
+--   reads_number    the answer's number is that of the verdict's cause, or 0
+--   reads_as        what is read of a text that is to be accepted
+--   reads_accepted  an accepted text is that of an expression, whose code the array begins with
+--   reads_refused   a refused one has a cause, whose number is given, and is that of no expression within the limits
 -- Assumes nothing.
-use mathlib.Core.Path.{_≡_, refl, sym, ap, _∙_}
-use mathlib.Core.List.{List}
-use Prim.Native.Nat.{ℕ, _<_}
-use native.Mathlib.Omega.{arith}
-use lib.ListN.{length, take}
-use lib.Seq.{take-append-seam}
-use Rattle·book.specs.Causes.{number, firstNumber}
-use Rattle·paths.specs.Expressions.{Expr}
-use Rattle·paths.specs.Grammar.{Verdict, accepted, long, outside, large, verdictCause}
-use Rattle·paths.specs.Verdicts.{verdict, accepted-is}
-use Rattle·reader·specs.specs.Code.{code}
-use Rattle·reader·specs.specs.CodeLaws.{code-short}
-use Rattle·reader·specs.specs.declared.Answer.the-variants.{Accepted, Refused}
-use Rattle·reader·specs.specs.declared.Reading.{Reading}
-use Rattle·reader·specs.specs.Reads.{readAnswer, codeArray, Reads, readNumber, ReadAs}
+use Rattle.std.specs.Prelude.{◌≡◌, refl, List, ℕ, ◌<◌, length, take}
+use Rattle.std.proofs.Common.{sym, ap, ◌∙◌, arith}
+use Rattle.std.proofs.Math.Seq.{take-append_seam}
+use Rattle.book.specs.Causes.{number, first_number}
+use Rattle.paths.specs.Expressions.{Expr}
+use Rattle.paths.specs.Grammar.{Verdict, accepted, long, outside, large, verdict_cause}
+use Rattle.paths.specs.Verdicts.{verdict}
+use Rattle.paths.proofs.VerdictLaws.{accepted_is}
+use Rattle.reader.specs.Code.{code}
+use Rattle.reader.specs.CodeLaws.{code_short}
+use Rattle.reader.specs.declared.Answer.TheVariants.{Accepted, Refused}
+use Rattle.reader.specs.declared.Reading.{Reading}
+use Rattle.reader.specs.Reads.{read_answer, code_array, Reads, read_number, ReadAs}
 
-number-of : (v : Verdict) → readNumber (readAnswer v) ≡ firstNumber (verdictCause v)
-unfolding readAnswer firstNumber verdictCause
-number-of (accepted e) = refl
-number-of long = refl
-number-of outside = refl
-number-of large = refl
+number_of : (v : Verdict) → read_number (read_answer v) ≡ first_number (verdict_cause v)
+unfolding read_answer first_number verdict_cause
+number_of (accepted e) = refl
+number_of long = refl
+number_of outside = refl
+number_of large = refl
 
-pub reads-number : {text : List ℕ} {r : Reading} → Reads text r → readNumber (r .answer) ≡ firstNumber (verdictCause (verdict text))
-reads-number {text} h = ap readNumber (h .answered) ∙ number-of (verdict text)
+pub reads_number : {text : List ℕ} {r : Reading} → Reads text r → read_number r.answer ≡ first_number (verdict_cause (verdict text))
+reads_number {text} h = ap read_number h.answered ∙ number_of (verdict text)
 
-pub reads-as : {text : List ℕ} {r : Reading} (e : Expr) → Reads text r → verdict text ≡ accepted e
-    → (r .answer ≡ Accepted (length (code e))) × ReadAs text (length (code e)) (r .code) e
-unfolding readAnswer codeArray
-reads-as {text} {r} e h v =
-    let limits = accepted-is text e v in (
-      h .answered ∙ ap readAnswer v,
+pub reads_as : {text : List ℕ} {r : Reading} (e : Expr) → Reads text r → verdict text ≡ accepted e
+    → (r.answer ≡ Accepted (length (code e))) × ReadAs text (length (code e)) r.code e
+unfolding read_answer code_array
+reads_as {text} {r} e h v =
+    let limits = accepted_is text e v in (
+      h.answered ∙ ap read_answer v,
       record {
         is = v;
         limits = limits;
         end = refl;
-        fits = omega (arith, limits .bytes, code-short (limits .syntax));
-        front = ap (take (length (code e))) (h .coded ∙ ap codeArray v) ∙ take-append-seam (code e) _;
+        fits = omega (arith, limits.bytes, code_short limits.syntax);
+        front = ap (take (length (code e))) (h.coded ∙ ap code_array v) ∙ take-append_seam (code e) _;
       },
     )
 
 -- by the verdict
-accepted-as : {text : List ℕ} {r : Reading} {n : ℕ} (v : Verdict) → verdict text ≡ v
-    → Reads text r → readAnswer v ≡ Accepted n → (e : Expr) × ReadAs text n (r .code) e
-unfolding readAnswer
-accepted-as {text} {r} {n} (accepted e) q h a = let p = reads-as e h q in let z : length (code e) ≡ n = cc in (e, rw (← z) (p .1))
-accepted-as long q h a = absurd (let z : _≡_ {A = ℕ} 0 1 = cc in omega arith)
-accepted-as outside q h a = absurd (let z : _≡_ {A = ℕ} 0 1 = cc in omega arith)
-accepted-as large q h a = absurd (let z : _≡_ {A = ℕ} 0 1 = cc in omega arith)
+accepted_as : {text : List ℕ} {r : Reading} {n : ℕ} (v : Verdict) → verdict text ≡ v
+    → Reads text r → read_answer v ≡ Accepted n → (e : Expr) × ReadAs text n r.code e
+unfolding read_answer
+accepted_as {text} {r} {n} (accepted e) q h a = let p = reads_as e h q in let z : length (code e) ≡ n = cc in (e, rw (← z) p.1)
+accepted_as long q h a = absurd (let z : ◌≡◌ {A = ℕ} 0 1 = cc in omega arith)
+accepted_as outside q h a = absurd (let z : ◌≡◌ {A = ℕ} 0 1 = cc in omega arith)
+accepted_as large q h a = absurd (let z : ◌≡◌ {A = ℕ} 0 1 = cc in omega arith)
 
-pub reads-accepted : {text : List ℕ} {r : Reading} {n : ℕ} → Reads text r → r .answer ≡ Accepted n → (e : Expr) × ReadAs text n (r .code) e
-reads-accepted {text} h a = accepted-as (verdict text) refl h (sym (h .answered) ∙ a)
+pub reads_accepted : {text : List ℕ} {r : Reading} {n : ℕ} → Reads text r → r.answer ≡ Accepted n → (e : Expr) × ReadAs text n r.code e
+reads_accepted {text} h a = accepted_as (verdict text) refl h (sym h.answered ∙ a)
 
-refused-some : (v : Verdict) (k : ℕ) → readAnswer v ≡ Refused k → (0 < k) × ((e : Expr) → v ≡ accepted e → ⊥)
-unfolding readAnswer firstNumber verdictCause number
-refused-some (accepted e) k a = absurd (let z : _≡_ {A = ℕ} 0 1 = cc in omega arith)
-refused-some long k a = (let z : 10 ≡ k = cc in omega arith, λ e h. let z : _≡_ {A = ℕ} 0 1 = cc in omega arith)
-refused-some outside k a = (let z : 9 ≡ k = cc in omega arith, λ e h. let z : _≡_ {A = ℕ} 0 1 = cc in omega arith)
-refused-some large k a = (let z : 10 ≡ k = cc in omega arith, λ e h. let z : _≡_ {A = ℕ} 0 1 = cc in omega arith)
+refused_some : (v : Verdict) (k : ℕ) → read_answer v ≡ Refused k → (0 < k) × ((e : Expr) → v ≡ accepted e → ⊥)
+unfolding read_answer first_number verdict_cause number
+refused_some (accepted e) k a = absurd (let z : ◌≡◌ {A = ℕ} 0 1 = cc in omega arith)
+refused_some long k a = (let z : 10 ≡ k = cc in omega arith, λ e h. let z : ◌≡◌ {A = ℕ} 0 1 = cc in omega arith)
+refused_some outside k a = (let z : 9 ≡ k = cc in omega arith, λ e h. let z : ◌≡◌ {A = ℕ} 0 1 = cc in omega arith)
+refused_some large k a = (let z : 10 ≡ k = cc in omega arith, λ e h. let z : ◌≡◌ {A = ℕ} 0 1 = cc in omega arith)
 
-pub reads-refused : {text : List ℕ} {r : Reading} {k : ℕ} → Reads text r → r .answer ≡ Refused k
-    → (firstNumber (verdictCause (verdict text)) ≡ k) × ((0 < k) × ((e : Expr) → verdict text ≡ accepted e → ⊥))
-reads-refused {text} {r} {k} h a = (sym (reads-number h) ∙ ap readNumber a, refused-some (verdict text) k (sym (h .answered) ∙ a))
+pub reads_refused : {text : List ℕ} {r : Reading} {k : ℕ} → Reads text r → r.answer ≡ Refused k
+    → (first_number (verdict_cause (verdict text)) ≡ k) × ((0 < k) × ((e : Expr) → verdict text ≡ accepted e → ⊥))
+reads_refused {text} {r} {k} h a = (sym (reads_number h) ∙ ap read_number a, refused_some (verdict text) k (sym h.answered ∙ a))

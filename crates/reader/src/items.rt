@@ -1,6 +1,6 @@
 // The numbers of a code, and what each is: an operator, or a symbol with the letters that it stands for.
-ghost use mathlib.Core.Path.{_≡_};
-ghost use Rattle·reader·specs.specs.Code.{lettersNumber, itemOf};
+ghost use Rattle.std.specs.Prelude.{◌≡◌};
+ghost use Rattle.reader.specs.Code.{letters_number, item_of};
 
 // The numbers of a code: the operators, those on one operand first, then the symbols. `item_of` says what a number is.
 pub const INVERSE: u64 = 0;
@@ -26,6 +26,7 @@ const LABEL_SETS: u64 = 67108864;
 // What a number of a code is: the letters that a symbol stands for, or an operator. The letters are two sets of labels, of 26 bits: bit l of the
 // first is set if the letter l is one of them plain, so that links of the label l are crossed forward; bit l of the second if it is inverted, so that
 // they are crossed against their sense.
+#[derive(Clone, Copy)]
 pub enum Item {
     Letters(u32, u32),
     Inverse,
@@ -37,7 +38,7 @@ pub enum Item {
 }
 
 pub fn item_of(number: u64) -> Item
-    ensures { λ r. ⌜ r ≡ itemOf number ⌝ }
+    ensures { result ≡ item_of number }
 {
     if number == INVERSE {
         return Item::Inverse;
@@ -66,7 +67,7 @@ pub fn item_of(number: u64) -> Item
 
 // The number of a symbol that stands for these letters.
 pub fn letters_number(forward: u32, against: u32) -> u64
-    ensures { λ r. ⌜ r ≡ lettersNumber forward against ⌝ }
+    ensures { result ≡ letters_number forward against }
 {
     FIRST_LETTERS + forward as u64 + against as u64 * LABEL_SETS
 }

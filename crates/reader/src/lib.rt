@@ -1,32 +1,22 @@
 // The expression reader: alternatives, sequences and parts read one another through a group, over lent bytes and a position; symbols.rt has letters and
 // negated sets. What is written is the postfix code of the expression, in the numbers of items.rt. A code is no longer than its text, so there is always
 // room.
+#![tactic(auto)]
+
 mod items;
 mod symbols;
 
-use crate::items::ALTERNATIVE;
-use crate::items::INVERSE;
-use crate::items::NO_MARK;
-use crate::items::OPTIONAL;
-use crate::items::PLUS;
-use crate::items::SEQUENCE;
-use crate::items::STAR;
-use crate::items::letters_number;
-use crate::symbols::Symbol;
-use crate::symbols::peek;
-use crate::symbols::symbol_at;
-ghost use mathlib.Core.Path.{_≡_};
-ghost use mathlib.Core.List.{List};
-ghost use Prim.Native.Nat.{ℕ, _+_, _<_, max};
-ghost use lib.ListN.{length, drop, set, replicate};
-ghost use Rattle·book.specs.Causes.{maxBytes};
-ghost use Rattle·paths.specs.Descent.{Parse, got, readAlternatives, readParts, readPart, readAtom};
-ghost use Rattle·reader·specs.specs.Reads.{Reads};
-ghost use Rattle·reader·specs.specs.declared.Answer.the-variants.{Refused};
-ghost use Rattle·reader·specs.specs.Progress.{Done, Stands, Asks, Fits, RoomToJoin, RoomToWrap, RoomToWrite, Joins, Closes, comesNext, spotOf, markOf, wrap};
-ghost use Rattle·reader·specs.specs.Progress.{wrapCode};
-pub use items::Item;
-pub use items::item_of;
+ghost use Rattle.std.specs.Prelude.{◌≡◌, List, ℕ, ◌+◌, ◌<◌, max, length, drop, set, replicate};
+ghost use Rattle.book.specs.Causes.{max_bytes};
+ghost use Rattle.paths.specs.Descent.{Parse, got, read_alternatives, read_parts, read_part, read_atom};
+ghost use Rattle.reader.specs.Reads.{Reads};
+ghost use Rattle.reader.specs.declared.Answer.TheVariants.{Refused};
+ghost use Rattle.reader.specs.Progress.{Done, Stands, Asks, Fits, RoomToJoin, RoomToWrap, RoomToWrite, Joins, Closes, comes_next, spot_of, mark_of, wrap};
+ghost use Rattle.reader.specs.Progress.{wrap_code};
+
+use crate::items::{ALTERNATIVE, INVERSE, NO_MARK, OPTIONAL, PLUS, SEQUENCE, STAR, letters_number};
+use crate::symbols::{Symbol, peek, symbol_at};
+pub use items::{Item, item_of};
 
 // The numbers of the causes, in the type of this crate's answers.
 const NO_EXPRESSION: u8 = book::NO_EXPRESSION as u8;
@@ -36,6 +26,7 @@ const TOO_MANY_BYTES: u8 = book::TOO_MANY_BYTES as u8;
 const TOO_LARGE: u8 = book::TOO_LARGE as u8;
 
 // An expression that was read: where it ends in the text and in the code, how many letters it has, and how deep its groups are nested.
+#[derive(Clone, Copy)]
 struct Spot {
     at: usize,
     end: usize,
@@ -44,6 +35,7 @@ struct Spot {
 }
 
 // What a reader finds.
+#[derive(Clone, Copy)]
 enum Parsed {
     Got(Spot),
     Fault,
@@ -51,22 +43,22 @@ enum Parsed {
 
 // One number more at the end of the code.
 fn push(code: &mut [u64], n: usize, x: u64) -> usize
-    requires { ⌜ n < length (now code) ⌝ }
-    ensures { λ r. ⌜ (r ≡ n + 1) × (now (code .exit) ≡ set (now (code .entry)) n x) ⌝ }
+    requires { n < length code.old }
+    ensures { (result ≡ n + 1) × (code.new ≡ set code.old n x) }
 {
     code[n] = x;
     n + 1
 }
 
 fn larger(a: usize, b: usize) -> usize
-    ensures { λ r. ⌜ r ≡ max a b ⌝ }
+    ensures { result ≡ max a b }
 {
     if a <= b { b } else { a }
 }
 
 // Whether the byte b comes after what was read.
 fn comes_next(s: &[u8], r: Parsed, b: u8) -> bool
-    ensures { λ t. ⌜ t ≡ comesNext (now (s .entry)) r b ⌝ }
+    ensures { result ≡ comes_next s.now r b }
 {
     let Parsed::Got(q) = r else {
         return false;
@@ -76,7 +68,7 @@ fn comes_next(s: &[u8], r: Parsed, b: u8) -> bool
 
 // The expression that was read, or zeros if none was.
 fn ends_at(r: Parsed) -> Spot
-    ensures { λ q. ⌜ q ≡ spotOf r ⌝ }
+    ensures { result ≡ spot_of r }
 {
     let Parsed::Got(q) = r else {
         return Spot {
@@ -91,8 +83,8 @@ fn ends_at(r: Parsed) -> Spot
 
 // What was read first, and what was read next after an operator's byte, as one expression.
 fn combined(code: &mut [u64], first: Parsed, next: Parsed, x: u64) -> Parsed
-    requires { ⌜ RoomToJoin (length (now code)) first next ⌝ }
-    ensures { λ r. ⌜ Joins x first next (now (code .entry)) (now (code .exit)) r ⌝ }
+    requires { RoomToJoin (length code.old) first next }
+    ensures { Joins x first next code.old code.new result }
 {
     let Parsed::Got(p) = first else {
         return Parsed::Fault;
@@ -110,9 +102,10 @@ fn combined(code: &mut [u64], first: Parsed, next: Parsed, x: u64) -> Parsed
 }
 
 // Sequences, with | between them.
+#[cycle(alternatives_atom_part_sequence)]
 fn alternatives(s: &[u8], at: usize, code: &mut [u64], n: usize) -> Parsed
-    requires { ⌜ Asks (now s) at n (now code) ⌝ }
-    ensures { λ r. ⌜ Done got (now (s .entry)) at n (now (code .entry)) (now (code .exit)) (readAlternatives (drop at (now (s .entry)))) r ⌝ }
+    requires { Asks s.now at n code.old }
+    ensures { Done got s.now at n code.old code.new (read_alternatives (drop at s.now)) result }
 {
     let mut first = sequence(s, at, code, n);
     while comes_next(s, first, b'|') {
@@ -124,9 +117,10 @@ fn alternatives(s: &[u8], at: usize, code: &mut [u64], n: usize) -> Parsed
 }
 
 // Parts, with / between them.
+#[cycle(alternatives_atom_part_sequence)]
 fn sequence(s: &[u8], at: usize, code: &mut [u64], n: usize) -> Parsed
-    requires { ⌜ Asks (now s) at n (now code) ⌝ }
-    ensures { λ r. ⌜ Done got (now (s .entry)) at n (now (code .entry)) (now (code .exit)) (readParts (drop at (now (s .entry)))) r ⌝ }
+    requires { Asks s.now at n code.old }
+    ensures { Done got s.now at n code.old code.new (read_parts (drop at s.now)) result }
 {
     let mut first = part(s, at, code, n);
     while comes_next(s, first, b'/') {
@@ -138,9 +132,10 @@ fn sequence(s: &[u8], at: usize, code: &mut [u64], n: usize) -> Parsed
 }
 
 // An optional ^, then a letter or a group, then at most one mark. The mark belongs to the letter or group, and the ^ to both.
+#[cycle(alternatives_atom_part_sequence)]
 fn part(s: &[u8], at: usize, code: &mut [u64], n: usize) -> Parsed
-    requires { ⌜ Asks (now s) at n (now code) ⌝ }
-    ensures { λ r. ⌜ Done got (now (s .entry)) at n (now (code .entry)) (now (code .exit)) (readPart (drop at (now (s .entry)))) r ⌝ }
+    requires { Asks s.now at n code.old }
+    ensures { Done got s.now at n code.old code.new (read_part (drop at s.now)) result }
 {
     if peek(s, at) == b'^' {
         let r = atom(s, at + 1, code, n);
@@ -155,9 +150,10 @@ fn part(s: &[u8], at: usize, code: &mut [u64], n: usize) -> Parsed
 }
 
 // A symbol, or a group: inside its parentheses a whole expression again.
+#[cycle(alternatives_atom_part_sequence)]
 fn atom(s: &[u8], at: usize, code: &mut [u64], n: usize) -> Parsed
-    requires { ⌜ Asks (now s) at n (now code) ⌝ }
-    ensures { λ r. ⌜ Done got (now (s .entry)) at n (now (code .entry)) (now (code .exit)) (readAtom (drop at (now (s .entry)))) r ⌝ }
+    requires { Asks s.now at n code.old }
+    ensures { Done got s.now at n code.old code.new (read_atom (drop at s.now)) result }
 {
     if peek(s, at) == b'(' {
         let r = alternatives(s, at + 1, code, n);
@@ -169,8 +165,8 @@ fn atom(s: &[u8], at: usize, code: &mut [u64], n: usize) -> Parsed
 
 // A symbol's number written.
 fn written(code: &mut [u64], n: usize, x: Symbol) -> Parsed
-    requires { ⌜ RoomToWrite (length (now code)) n x ⌝ }
-    ensures { λ r. ⌜ ((s : List ℕ) (at : ℕ) (y : Parse) → Stands s at y x → Done got s at n (now (code .entry)) (now (code .exit)) y r) ⌝ }
+    requires { RoomToWrite (length code.old) n x }
+    ensures { (s : List ℕ) (at : ℕ) (y : Parse) → Stands s at y x → Done got s at n code.old code.new y result }
 {
     let Symbol::Read(q) = x else {
         return Parsed::Fault;
@@ -186,7 +182,7 @@ fn written(code: &mut [u64], n: usize, x: Symbol) -> Parsed
 
 // The number of the mark's operator that comes after what was read, or NO_MARK if none does.
 fn mark_after(s: &[u8], r: Parsed) -> u64
-    ensures { λ x. ⌜ x ≡ markOf (now (s .entry)) r ⌝ }
+    ensures { result ≡ mark_of s.now r }
 {
     let Parsed::Got(p) = r else {
         return NO_MARK;
@@ -206,8 +202,8 @@ fn mark_after(s: &[u8], r: Parsed) -> u64
 
 // What was read with the operator of number x on it, its text `passed` bytes longer; as it is if x is NO_MARK.
 fn wrapped(code: &mut [u64], r: Parsed, x: u64, passed: usize) -> Parsed
-    requires { ⌜ RoomToWrap (length (now code)) x passed r ⌝ }
-    ensures { λ q. ⌜ (q ≡ wrap x passed r) × (now (code .exit) ≡ wrapCode x r (now (code .entry))) ⌝ }
+    requires { RoomToWrap (length code.old) x passed r }
+    ensures { (result ≡ wrap x passed r) × (code.new ≡ wrap_code x r code.old) }
 {
     let Parsed::Got(p) = r else {
         return Parsed::Fault;
@@ -226,8 +222,8 @@ fn wrapped(code: &mut [u64], r: Parsed, x: u64, passed: usize) -> Parsed
 
 // What was read after a (, with the ) after it.
 fn closed(s: &[u8], r: Parsed) -> Parsed
-    requires { ⌜ Fits (now s) r ⌝ }
-    ensures { λ q. ⌜ Closes (now (s .entry)) r q ⌝ }
+    requires { Fits s.now r }
+    ensures { Closes s.now r result }
 {
     let Parsed::Got(p) = r else {
         return Parsed::Fault;
@@ -245,12 +241,14 @@ fn closed(s: &[u8], r: Parsed) -> Parsed
 }
 
 // The answer to a text: accepted, with the length of its code, or refused, with the number of the cause.
+#[derive(Clone, Copy)]
 pub enum Answer {
     Accepted(usize),
     Refused(u8),
 }
 
 // An answer with the code: zeros follow it, and stand alone with a refusal.
+#[derive(Drop)]
 pub struct Reading {
     pub answer: Answer,
     pub code: [u64; book::MAX_BYTES],
@@ -258,7 +256,7 @@ pub struct Reading {
 
 // A refusal, with no code.
 fn refused(number: u8) -> Reading
-    ensures { λ r. ⌜ (r .answer ≡ Refused number) × (r .code ≡ replicate maxBytes 0) ⌝ }
+    ensures { (result.answer ≡ Refused number) × (result.code ≡ replicate max_bytes 0) }
 {
     Reading {
         answer: Answer::Refused(number),
@@ -268,7 +266,7 @@ fn refused(number: u8) -> Reading
 
 // A whole text: over 256 bytes first, then the grammar, then the letters and the depth.
 fn whole(s: &[u8]) -> Reading
-    ensures { λ r. ⌜ Reads (now (s .entry)) r ⌝ }
+    ensures { Reads s.now result }
 {
     if book::MAX_BYTES < s.len() {
         return refused(TOO_MANY_BYTES);
@@ -295,7 +293,7 @@ fn whole(s: &[u8]) -> Reading
 
 // The text from a place on; past the end it is empty.
 pub fn read_at(src: &[u8], at: usize) -> Reading
-    ensures { λ r. ⌜ Reads (drop at (now (src .entry))) r ⌝ }
+    ensures { Reads (drop at src.now) result }
 {
     if at <= src.len() {
         let text = &src[at..];
@@ -307,6 +305,7 @@ pub fn read_at(src: &[u8], at: usize) -> Reading
 
 // The caller's bytes and the place in them from which on they are read. Its functions are thin: the work is done by `read_at`, on the slice and the
 // number.
+#[derive(Drop)]
 pub struct Reader<'a> {
     pub src: &'a [u8],
     pub at: usize,
@@ -315,14 +314,14 @@ pub struct Reader<'a> {
 impl<'a> Reader<'a> {
     // At the first byte.
     pub fn new(src: &'a [u8]) -> Reader<'a>
-        ensures { λ r. ⌜ (r .src ≡ src .entry) × (r .at ≡ 0) ⌝ }
+        ensures { (result.src ≡ src.entry) × (result.at ≡ 0) }
     {
         Reader { src, at: 0 }
     }
 
     // The expression that starts at the place, which may be in the middle of the slice, and ends with it.
     pub fn expression(self) -> Reading
-        ensures { λ r. ⌜ Reads (drop (self .entry .at) (now (self .entry .src))) r ⌝ }
+        ensures { Reads (drop self.entry.at self.entry.src.now) result }
     {
         read_at(self.src, self.at)
     }
@@ -330,7 +329,7 @@ impl<'a> Reader<'a> {
 
 // A whole text: for callers that hold no reader.
 pub fn read(text: &[u8]) -> Reading
-    ensures { λ r. ⌜ Reads (now (text .entry)) r ⌝ }
+    ensures { Reads text.now result }
 {
     Reader::new(text).expression()
 }

@@ -1,18 +1,16 @@
 // What stands where a letter may: a letter, or a negated set with its members. Each is read from a place of the text on, as the letters that it stands for.
-ghost use mathlib.Core.Path.{_≡_};
-ghost use mathlib.Core.List.{List, []};
-ghost use Prim.Native.Nat.{_+_, _<_, _≤_};
-ghost use lib.ListN.{length, drop};
-ghost use Rattle·paths.specs.Expressions.{Letter};
-ghost use Rattle·paths.specs.Grammar.{open-group};
-ghost use Rattle·paths.specs.Descent.{firstByte, membersIn, readNegated, readAtom};
-ghost use Rattle·reader·specs.specs.Code.{label-sets};
-ghost use Rattle·reader·specs.specs.Progress.{Stands, labelAt, Marked, MemberAt, othersOf};
+ghost use Rattle.std.specs.Prelude.{◌≡◌, List, [], ◌+◌, ◌<◌, ◌≤◌, length, drop};
+ghost use Rattle.paths.specs.Expressions.{Letter};
+ghost use Rattle.paths.specs.Grammar.{open_group};
+ghost use Rattle.paths.specs.Descent.{first_byte, members_in, read_negated, read_atom};
+ghost use Rattle.reader.specs.Code.{label_sets};
+ghost use Rattle.reader.specs.Progress.{Stands, label_at, Marked, MemberAt, others_of};
 
 // The set of all labels.
 const ALL_LABELS: u32 = 67108863;
 
 // The letters of a symbol that was read, as two sets of labels, and where it ends in the text.
+#[derive(Clone, Copy)]
 pub struct Letters {
     pub at: usize,
     pub forward: u32,
@@ -20,6 +18,7 @@ pub struct Letters {
 }
 
 // What is read where a symbol may stand.
+#[derive(Clone, Copy)]
 pub enum Symbol {
     Read(Letters),
     Missing,
@@ -27,15 +26,15 @@ pub enum Symbol {
 
 // The byte at a place, or 0 at the end.
 pub fn peek(s: &[u8], at: usize) -> u8
-    ensures { λ r. ⌜ r ≡ firstByte (drop at (now (s .entry))) ⌝ }
+    ensures { result ≡ first_byte (drop at s.now) }
 {
     if at < s.len() { s[at] } else { 0 }
 }
 
 // A letter or a negated set, where no group begins.
 pub fn symbol_at(s: &[u8], at: usize) -> Symbol
-    requires { ⌜ at ≤ length (now s) ⌝ }
-    ensures { λ x. ⌜ ((firstByte (drop at (now (s .entry))) ≡ open-group → ⊥) → Stands (now (s .entry)) at (readAtom (drop at (now (s .entry)))) x) ⌝ }
+    requires { at ≤ length s.now }
+    ensures { (first_byte (drop at s.now) ≡ open_group → ⊥) → Stands s.now at (read_atom (drop at s.now)) result }
 {
     if peek(s, at) == b'!' {
         return negated(s, at + 1);
@@ -53,7 +52,7 @@ pub fn symbol_at(s: &[u8], at: usize) -> Symbol
 
 // A letter's label as a set, or the empty set if no letter stands there.
 fn label_at(s: &[u8], at: usize) -> u32
-    ensures { λ r. ⌜ r ≡ labelAt (firstByte (drop at (now (s .entry)))) ⌝ }
+    ensures { result ≡ label_at (first_byte (drop at s.now)) }
 {
     let c = peek(s, at);
     if c < b'a' {
@@ -67,8 +66,8 @@ fn label_at(s: &[u8], at: usize) -> u32
 
 // A negated set, after its !: one member, or members in parentheses, which are no group.
 fn negated(s: &[u8], at: usize) -> Symbol
-    requires { ⌜ at ≤ length (now s) ⌝ }
-    ensures { λ x. ⌜ Stands (now (s .entry)) at (readNegated (drop at (now (s .entry)))) x ⌝ }
+    requires { at ≤ length s.now }
+    ensures { Stands s.now at (read_negated (drop at s.now)) result }
 {
     if peek(s, at) == b'(' {
         return set(s, at + 1);
@@ -93,8 +92,8 @@ fn negated(s: &[u8], at: usize) -> Symbol
 
 // The members of a set up to its ), after the (.
 fn set(s: &[u8], at: usize) -> Symbol
-    requires { ⌜ at ≤ length (now s) ⌝ }
-    ensures { λ x. ⌜ Stands (now (s .entry)) at (membersIn (length (drop at (now (s .entry))) + 1) [] (drop at (now (s .entry)))) x ⌝ }
+    requires { at ≤ length s.now }
+    ensures { Stands s.now at (members_in (length (drop at s.now) + 1) [] (drop at s.now)) result }
 {
     let mut before = Letters {
         at,
@@ -127,8 +126,8 @@ fn set(s: &[u8], at: usize) -> Symbol
 
 // The member of a set that stands after `before`, a letter or ^ and a letter, with those before it.
 fn member(s: &[u8], before: Letters) -> Symbol
-    requires { ⌜ before .at ≤ length (now s) ⌝ }
-    ensures { λ x. ⌜ ((w : List Letter) → Marked w before → MemberAt (now (s .entry)) (before .at) w x) ⌝ }
+    requires { before.at ≤ length s.now }
+    ensures { (w : List Letter) → Marked w before → MemberAt s.now before.at w result }
 {
     if peek(s, before.at) == b'^' {
         let label = label_at(s, before.at + 1);
@@ -154,8 +153,8 @@ fn member(s: &[u8], before: Letters) -> Symbol
 
 // The labels that a negated set stands for, in a sense where its members have these.
 fn others(labels: u32) -> u32
-    requires { ⌜ labels < label-sets ⌝ }
-    ensures { λ r. ⌜ r ≡ othersOf labels ⌝ }
+    requires { labels < label_sets }
+    ensures { result ≡ others_of labels }
 {
     if labels == 0 {
         return 0;

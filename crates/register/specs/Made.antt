@@ -2,20 +2,19 @@
 --   MadeBy n cs r   the calls cs, refused ones too, made the register r from a fresh one of n records, n from 1 to 1,024: the results of opening and of each
 --                   call meet their promises
 -- Assumes nothing: these are definitions.
-use mathlib.Core.List.{List}
-use Prim.Native.Nat.{ℕ, _≤_}
-use Rattle·book.specs.Causes.{maxRecords}
-use Rattle·book.specs.Book.{Call}
-use Rattle·register·specs.specs.Calls.{Opens}
-use Rattle·register·specs.specs.History.{Lent, CallsMade}
-use Rattle·register·specs.specs.declared.Register.{Register}
-use Rattle·register·specs.specs.declared.Outcome.{Outcome}
+use Rattle.std.specs.Prelude.{List, ℕ, ◌≤◌}
+use Rattle.book.specs.Causes.{max_records}
+use Rattle.book.specs.Book.{Call}
+use Rattle.register.specs.Calls.{Opens}
+use Rattle.register.specs.History.{Lent, CallsMade}
+use Rattle.register.specs.declared.Register.{Register}
+use Rattle.register.specs.declared.Outcome.{Outcome}
 
 pub record MadeBy (n : ℕ) (cs : List Call) (r : Register) : Type 0 where
   pub some : 1 ≤ n
-  pub few : n ≤ maxRecords
+  pub few : n ≤ max_records
   pub opened : Outcome
   pub opens : Opens n opened
   pub told : List ℕ
   pub lists : List Lent
-  pub calls : CallsMade (opened .register) cs told lists r
+  pub calls : CallsMade opened.register cs told lists r

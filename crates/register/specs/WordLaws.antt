@@ -1,68 +1,68 @@
 -- Laws of a register's words: how many they are, what stands where, that they are the words of one register, which words are a register's, and when they
 -- are loaded.
---   words-long, keeps-long
+--   words_long, keeps_long
 --                  how many words a register has, and that a state which keeps one is no shorter
---   keeps-number, keeps-links, keeps-marks, keeps-totals
+--   keeps_number, keeps_links, keeps_marks, keeps_totals
 --                  its counters, links, marks and totals, each at its place
---   keeps-same     words are those of one register
---   keeps-mark, keeps-total
+--   keeps_same     words are those of one register
+--   keeps_mark, keeps_total
 --                  the mark of a record, and the total of a label, among the words is the register's
---   keeps-sized, keeps-listing, keeps-mark-list, keeps-total-list, keeps-locking, keeps-withdrawal
+--   keeps_sized, keeps_listing, keeps_mark_list, keeps_total_list, keeps_locking, keeps_withdrawal
 --                  what is promised of size, links, marks, totals, locks and withdrawals holds of what the register keeps
---   of-foreign, of-kept
+--   of_foreign, of_kept
 --                  what is read of words that are no register's, and of a register's
---   part-long      how long a part of words is
+--   part_long      how long a part of words is
 --   loaded         words of the form, with their parts read out, keep the register of these parts
---   formed-keeps, keeps-formed
+--   formed_keeps, keeps_formed
 --                  words have the form if they are a register's, and no others
---   load-done      the number 0 says that they were loaded
---   edit-foreign, edit-stepped
+--   load_done      the number 0 says that they were loaded
+--   edit_foreign, edit_stepped
 --                  what an edit promises of words that are no register's, and of a register's
 -- Assumes nothing.
-use mathlib.Core.Path.{_≡_, refl, sym, ap, subst, _∙_}
-use mathlib.Core.List.{List, [], _∷_, _++_}
-use Prim.Native.Nat.{ℕ, _+_, _≤_, _<_}
-use native.Mathlib.Omega.{arith}
-use lib.ListN.{length, take, drop, getD, length-append, length-take, length-drop}
-use lib.Seq.{take-at, drop-at, getD-take, getD-drop, take-add, length-take-le}
-use Rattle·book.specs.Causes.{not-open, number, labels, maxLinks, maxHeld, maxRecords}
-use Rattle·book.specs.Book.{Call}
-use Rattle·register·specs.specs.Calls.{answerNumber, Steps}
-use Rattle·register·specs.specs.HistoryLaws.{answer-done}
-use Rattle·register·specs.specs.Marks.{freeMark, lockMark, withdrawnMark, hasMark}
-use Rattle·register·specs.specs.MarkLaws.{shows-locked, shows-withdrawn}
-use Rattle·register·specs.specs.Questions.{Sized, Listing, MarkList, Locking, Withdrawal, TotalList}
-use Rattle·register·specs.specs.Inner.{Formed, KeepsOne, markIn}
-use Rattle·register·specs.specs.Words.{stateWords, linksAt, ringAt, marksAt, totalsAt, numbersOf, stateOf, Keeps, Foreign, OfWords, Edits}
-use Rattle·register·specs.specs.Inner.{Loads}
-use Rattle·register·specs.specs.declared.Register.{Register}
-use Rattle·register·specs.specs.declared.Answer.{Answer}
-use Rattle·register·specs.specs.declared.Answer.the-variants.{Done, Refused}
-use Rattle·register·specs.specs.declared.Outcome.{Outcome}
+use Rattle.std.specs.Prelude.{◌≡◌, refl, ℕ, ◌+◌, ◌≤◌, ◌<◌, length, take, drop}
+use Rattle.std.proofs.Common.{sym, subst, ◌∙◌, arith, length-append, length-take, length-drop, take_at, drop_at, get_or-take, get_or-drop, take-add}
+use Rattle.std.proofs.Common.{length-take-le}
+use Rattle.std.proofs.Math.Path.{ap}
+use mathlib.Core.List.{List, [], ◌∷◌, ◌++◌}
+use Rattle.std.proofs.Math.ListN.{get_or}
+use Rattle.book.specs.Causes.{not_open, number, labels, max_links, max_held, max_records}
+use Rattle.book.specs.Book.{Call}
+use Rattle.register.specs.Calls.{answer_number, Steps}
+use Rattle.register.specs.HistoryLaws.{answer_done}
+use Rattle.register.specs.Marks.{free_mark, lock_mark, withdrawn_mark, has_mark}
+use Rattle.register.specs.MarkLaws.{shows_locked, shows_withdrawn}
+use Rattle.register.specs.Questions.{Sized, Listing, MarkList, Locking, Withdrawal, TotalList}
+use Rattle.register.specs.Inner.{Formed, KeepsOne, mark_in}
+use Rattle.register.specs.Words.{state_words, links_at, ring_at, marks_at, totals_at, numbers_of, state_of, Keeps, Foreign, OfWords, Edits}
+use Rattle.register.specs.Inner.{Loads}
+use Rattle.register.specs.declared.Register.{Register}
+use Rattle.register.specs.declared.Answer.{Answer}
+use Rattle.register.specs.declared.Answer.TheVariants.{Done, Refused}
+use Rattle.register.specs.declared.Outcome.{Outcome}
 
 -- the halves of two lists that are the same, parted at the same place
-parted : (a b a′ b′ : List ℕ) → length a ≡ length a′ → a ++ b ≡ a′ ++ b′ → (a ≡ a′) × (b ≡ b′)
-parted a b a′ b′ l e = (
-  sym (take-at a b (length a) refl) ∙ ap (take (length a)) e ∙ take-at a′ b′ (length a) (sym l),
-  sym (drop-at a b (length a) refl) ∙ ap (drop (length a)) e ∙ drop-at a′ b′ (length a) (sym l),
+parted : (a b a' b' : List ℕ) → length a ≡ length a' → a ++ b ≡ a' ++ b' → (a ≡ a') × (b ≡ b')
+parted a b a' b' l e = (
+  sym (take_at a b (length a) refl) ∙ ap (take (length a)) e ∙ take_at a' b' (length a) (sym l),
+  sym (drop_at a b (length a) refl) ∙ ap (drop (length a)) e ∙ drop_at a' b' (length a) (sym l),
 )
 
 -- the lengths of the front before each part
-ring-front : (r : Register) → length (numbersOf r ++ r .links) ≡ 4 + length (r .links)
-ring-front r = length-append (numbersOf r) (r .links)
+ring_front : (r : Register) → length (numbers_of r ++ r.links) ≡ 4 + length r.links
+ring_front r = length-append (numbers_of r) r.links
 
-marks-front : (r : Register) → length (numbersOf r ++ r .links ++ r .ring) ≡ 4 + length (r .links) + length (r .ring)
-marks-front r = length-append (numbersOf r ++ r .links) (r .ring) ∙ ap (λ (k : ℕ). k + length (r .ring)) (ring-front r)
+marks_front : (r : Register) → length (numbers_of r ++ r.links ++ r.ring) ≡ 4 + length r.links + length r.ring
+marks_front r = length-append (numbers_of r ++ r.links) r.ring ∙ ap (λ (k : ℕ). k + length r.ring) (ring_front r)
 
-totals-front : (r : Register) → length (numbersOf r ++ r .links ++ r .ring ++ r .marks) ≡ 4 + length (r .links) + length (r .ring) + length (r .marks)
-totals-front r =
-    length-append (numbersOf r ++ r .links ++ r .ring) (r .marks)
-    ∙ ap (λ (k : ℕ). k + length (r .marks)) (marks-front r)
+totals_front : (r : Register) → length (numbers_of r ++ r.links ++ r.ring ++ r.marks) ≡ 4 + length r.links + length r.ring + length r.marks
+totals_front r =
+    length-append (numbers_of r ++ r.links ++ r.ring) r.marks
+    ∙ ap (λ (k : ℕ). k + length r.marks) (marks_front r)
 
-pub words-long : (r : Register) → length (stateOf r) ≡ 4 + length (r .links) + length (r .ring) + length (r .marks) + length (r .totals)
-words-long r =
-    length-append (numbersOf r ++ r .links ++ r .ring ++ r .marks) (r .totals)
-    ∙ ap (λ (k : ℕ). k + length (r .totals)) (totals-front r)
+pub words_long : (r : Register) → length (state_of r) ≡ 4 + length r.links + length r.ring + length r.marks + length r.totals
+words_long r =
+    length-append (numbers_of r ++ r.links ++ r.ring ++ r.marks) r.totals
+    ∙ ap (λ (k : ℕ). k + length r.totals) (totals_front r)
 
 -- a front and what follows it, of words that begin with both
 parts : (ws front xs : List ℕ) (at k : ℕ) → at ≤ length ws → length front ≡ at → take (at + k) ws ≡ front ++ xs
@@ -70,156 +70,156 @@ parts : (ws front xs : List ℕ) (at k : ℕ) → at ≤ length ws → length fr
 parts ws front xs at k h l e = parted (take at ws) (take k (drop at ws)) front xs (length-take-le at ws h ∙ sym l) (sym (take-add at k ws) ∙ e)
 
 module _ {ws : List ℕ} {r : Register} (k : Keeps ws r) where
-  pub keeps-long : stateWords ≤ length ws
-  keeps-long = omega (arith, length-take stateWords ws, ap length (k .words), words-long r, k .links, k .ring, k .marks, k .totals)
+  pub keeps_long : state_words ≤ length ws
+  keeps_long = omega (arith, length-take state_words ws, ap length k.words, words_long r, k.links, k.ring, k.marks, k.totals)
 
-  to-totals : (take totalsAt ws ≡ numbersOf r ++ r .links ++ r .ring ++ r .marks) × (take labels (drop totalsAt ws) ≡ r .totals)
-  to-totals =
-      parts ws (numbersOf r ++ r .links ++ r .ring ++ r .marks) (r .totals) totalsAt labels (omega (arith, keeps-long))
-      (omega (arith, totals-front r, k .links, k .ring, k .marks)) (k .words)
+  to_totals : (take totals_at ws ≡ numbers_of r ++ r.links ++ r.ring ++ r.marks) × (take labels (drop totals_at ws) ≡ r.totals)
+  to_totals =
+      parts ws (numbers_of r ++ r.links ++ r.ring ++ r.marks) r.totals totals_at labels (omega (arith, keeps_long))
+      (omega (arith, totals_front r, k.links, k.ring, k.marks)) k.words
 
-  to-marks : (take marksAt ws ≡ numbersOf r ++ r .links ++ r .ring) × (take maxRecords (drop marksAt ws) ≡ r .marks)
-  to-marks =
-      parts ws (numbersOf r ++ r .links ++ r .ring) (r .marks) marksAt maxRecords (omega (arith, keeps-long))
-      (omega (arith, marks-front r, k .links, k .ring)) (to-totals .0)
+  to_marks : (take marks_at ws ≡ numbers_of r ++ r.links ++ r.ring) × (take max_records (drop marks_at ws) ≡ r.marks)
+  to_marks =
+      parts ws (numbers_of r ++ r.links ++ r.ring) r.marks marks_at max_records (omega (arith, keeps_long))
+      (omega (arith, marks_front r, k.links, k.ring)) to_totals.0
 
-  to-ring : (take ringAt ws ≡ numbersOf r ++ r .links) × (take maxHeld (drop ringAt ws) ≡ r .ring)
-  to-ring =
-      parts ws (numbersOf r ++ r .links) (r .ring) ringAt maxHeld (omega (arith, keeps-long)) (omega (arith, ring-front r, k .links)) (to-marks .0)
+  to_ring : (take ring_at ws ≡ numbers_of r ++ r.links) × (take max_held (drop ring_at ws) ≡ r.ring)
+  to_ring =
+      parts ws (numbers_of r ++ r.links) r.ring ring_at max_held (omega (arith, keeps_long)) (omega (arith, ring_front r, k.links)) to_marks.0
 
-  to-links : (take linksAt ws ≡ numbersOf r) × (take maxLinks (drop linksAt ws) ≡ r .links)
-  to-links = parts ws (numbersOf r) (r .links) linksAt maxLinks (omega (arith, keeps-long)) refl (to-ring .0)
+  to_links : (take links_at ws ≡ numbers_of r) × (take max_links (drop links_at ws) ≡ r.links)
+  to_links = parts ws (numbers_of r) r.links links_at max_links (omega (arith, keeps_long)) refl to_ring.0
 
   -- the parts of a register, each at its place
-  pub keeps-number : (i : ℕ) → i < linksAt → getD ws i 0 ≡ getD (numbersOf r) i 0
-  keeps-number i h = sym (getD-take linksAt ws i 0 h) ∙ ap (λ (t : List ℕ). getD t i 0) (to-links .0)
+  pub keeps_number : (i : ℕ) → i < links_at → get_or ws i 0 ≡ get_or (numbers_of r) i 0
+  keeps_number i h = sym (get_or-take links_at ws i 0 h) ∙ ap (λ (t : List ℕ). get_or t i 0) to_links.0
 
-  pub keeps-links : take maxLinks (drop linksAt ws) ≡ r .links
-  keeps-links = to-links .1
+  pub keeps_links : take max_links (drop links_at ws) ≡ r.links
+  keeps_links = to_links.1
 
-  keeps-ring : take maxHeld (drop ringAt ws) ≡ r .ring
-  keeps-ring = to-ring .1
+  keeps_ring : take max_held (drop ring_at ws) ≡ r.ring
+  keeps_ring = to_ring.1
 
-  pub keeps-marks : take maxRecords (drop marksAt ws) ≡ r .marks
-  keeps-marks = to-marks .1
+  pub keeps_marks : take max_records (drop marks_at ws) ≡ r.marks
+  keeps_marks = to_marks.1
 
-  pub keeps-totals : take labels (drop totalsAt ws) ≡ r .totals
-  keeps-totals = to-totals .1
+  pub keeps_totals : take labels (drop totals_at ws) ≡ r.totals
+  keeps_totals = to_totals.1
 
 module _ {ws : List ℕ} {r s : Register} (k : Keeps ws r) (l : Keeps ws s) where
-  number-same : (i : ℕ) → i < linksAt → getD (numbersOf r) i 0 ≡ getD (numbersOf s) i 0
-  number-same i h = sym (keeps-number k i h) ∙ keeps-number l i h
+  number_same : (i : ℕ) → i < links_at → get_or (numbers_of r) i 0 ≡ get_or (numbers_of s) i 0
+  number_same i h = sym (keeps_number k i h) ∙ keeps_number l i h
 
-  pub keeps-same : r ≡ s
-  keeps-same =
-      let n : r .n ≡ s .n = number-same 0 (omega arith) in
-      let count : r .count ≡ s .count = number-same 1 (omega arith) in
-      let top : r .top ≡ s .top = number-same 2 (omega arith) in
-      let held : r .held ≡ s .held = number-same 3 (omega arith) in
-      let links = sym (keeps-links k) ∙ keeps-links l in
-      let ring = sym (keeps-ring k) ∙ keeps-ring l in
-      let marks = sym (keeps-marks k) ∙ keeps-marks l in
-      let totals = sym (keeps-totals k) ∙ keeps-totals l in
+  pub keeps_same : r ≡ s
+  keeps_same =
+      let n : r.n ≡ s.n = number_same 0 (omega arith) in
+      let count : r.count ≡ s.count = number_same 1 (omega arith) in
+      let top : r.top ≡ s.top = number_same 2 (omega arith) in
+      let held : r.held ≡ s.held = number_same 3 (omega arith) in
+      let links = sym (keeps_links k) ∙ keeps_links l in
+      let ring = sym (keeps_ring k) ∙ keeps_ring l in
+      let marks = sym (keeps_marks k) ∙ keeps_marks l in
+      let totals = sym (keeps_totals k) ∙ keeps_totals l in
       λ i. record { n = n i; count = count i; links = links i; marks = marks i; ring = ring i; top = top i; held = held i; totals = totals i }
 
 -- ---- what is read of a register's words
 module _ {ws : List ℕ} {r : Register} (k : Keeps ws r) where
-  pub keeps-mark : (x : ℕ) → markIn ws x ≡ getD (r .marks) x freeMark
-  unfolding markIn
-  keeps-mark x = ap (λ (l : List ℕ). getD l x freeMark) (keeps-marks k)
+  pub keeps_mark : (x : ℕ) → mark_in ws x ≡ get_or r.marks x free_mark
+  unfolding mark_in
+  keeps_mark x = ap (λ (l : List ℕ). get_or l x free_mark) (keeps_marks k)
 
-  pub keeps-total : (l : ℕ) → l < labels → getD ws (totalsAt + l) 0 ≡ getD (r .totals) l 0
-  keeps-total l h =
-      sym (getD-drop totalsAt ws l 0) ∙ sym (getD-take labels (drop totalsAt ws) l 0 h) ∙ ap (λ (ts : List ℕ). getD ts l 0) (keeps-totals k)
+  pub keeps_total : (l : ℕ) → l < labels → get_or ws (totals_at + l) 0 ≡ get_or r.totals l 0
+  keeps_total l h =
+      sym (get_or-drop totals_at ws l 0) ∙ sym (get_or-take labels (drop totals_at ws) l 0 h) ∙ ap (λ (ts : List ℕ). get_or ts l 0) (keeps_totals k)
 
-  pub keeps-sized : Sized r (r .n)
-  keeps-sized = record { small = k .ranged .size; foreign = λ o. absurd (o (k .ranged)); size = λ b h. h .size }
+  pub keeps_sized : Sized r r.n
+  keeps_sized = record { small = k.ranged.size; foreign = λ o. absurd (o k.ranged); size = λ b h. h.size }
 
-  pub keeps-listing : Listing r (record { words = r .links; count = r .count })
-  keeps-listing =
-      record { few = k .ranged .count; long = k .links; foreign = λ o. absurd (o (k .ranged)); linked = λ b h. h .sheet .links }
+  pub keeps_listing : Listing r (record { words = r.links; count = r.count })
+  keeps_listing =
+      record { few = k.ranged.count; long = k.links; foreign = λ o. absurd (o k.ranged); linked = λ b h. h.sheet.links }
 
-  pub keeps-mark-list : MarkList r (r .marks)
-  keeps-mark-list = record { long = k .marks; foreign = λ o. absurd (o (k .ranged)); marks = λ b h. h .sheet .marks }
+  pub keeps_mark_list : MarkList r r.marks
+  keeps_mark_list = record { long = k.marks; foreign = λ o. absurd (o k.ranged); marks = λ b h. h.sheet.marks }
 
-  pub keeps-total-list : TotalList r (r .totals)
-  keeps-total-list = record { long = k .totals; foreign = λ o. absurd (o (k .ranged)); totals = λ b h. h .totals }
+  pub keeps_total_list : TotalList r r.totals
+  keeps_total_list = record { long = k.totals; foreign = λ o. absurd (o k.ranged); totals = λ b h. h.totals }
 
-  pub keeps-locking : (x : ℕ) → Locking r x (hasMark lockMark (r .marks) x)
-  keeps-locking x = record { foreign = λ o. absurd (o (k .ranged)); locked = λ b h. shows-locked (h .sheet) x }
+  pub keeps_locking : (x : ℕ) → Locking r x (has_mark lock_mark r.marks x)
+  keeps_locking x = record { foreign = λ o. absurd (o k.ranged); locked = λ b h. shows_locked h.sheet x }
 
-  pub keeps-withdrawal : (x : ℕ) → Withdrawal r x (hasMark withdrawnMark (r .marks) x)
-  keeps-withdrawal x = record { foreign = λ o. absurd (o (k .ranged)); withdrawn = λ b h. shows-withdrawn (h .sheet) x }
+  pub keeps_withdrawal : (x : ℕ) → Withdrawal r x (has_mark withdrawn_mark r.marks x)
+  keeps_withdrawal x = record { foreign = λ o. absurd (o k.ranged); withdrawn = λ b h. shows_withdrawn h.sheet x }
 
 module _ {A : Type 0} {ws : List ℕ} {P : Register → A → Type 0} {none a : A} where
-  pub of-foreign : Foreign ws → a ≡ none → OfWords ws P none a
-  of-foreign f e = record { kept = λ r k. absurd (f r k); foreign = λ _. e }
+  pub of_foreign : Foreign ws → a ≡ none → OfWords ws P none a
+  of_foreign f e = record { kept = λ r k. absurd (f r k); foreign = λ _. e }
 
-  pub of-kept : {r : Register} → Keeps ws r → P r a → OfWords ws P none a
-  of-kept {r} k p = record { kept = λ s l. subst (λ (t : Register). P t a) (keeps-same k l) p; foreign = λ f. absurd (f r k) }
+  pub of_kept : {r : Register} → Keeps ws r → P r a → OfWords ws P none a
+  of_kept {r} k p = record { kept = λ s l. subst (λ (t : Register). P t a) (keeps_same k l) p; foreign = λ f. absurd (f r k) }
 
 -- ---- which words are a register's: those of the form, no others
-four : (ws : List ℕ) → 4 ≤ length ws → take 4 ws ≡ getD ws 0 0 ∷ getD ws 1 0 ∷ getD ws 2 0 ∷ getD ws 3 0 ∷ []
+four : (ws : List ℕ) → 4 ≤ length ws → take 4 ws ≡ get_or ws 0 0 ∷ get_or ws 1 0 ∷ get_or ws 2 0 ∷ get_or ws 3 0 ∷ []
 four [] h = absurd (omega arith)
 four (a ∷ []) h = absurd (omega arith)
 four (a ∷ b ∷ []) h = absurd (omega arith)
 four (a ∷ b ∷ c ∷ []) h = absurd (omega arith)
 four (a ∷ b ∷ c ∷ d ∷ ws) h = refl
 
-pub part-long : (ws : List ℕ) (i k : ℕ) → i + k ≤ length ws → length (take k (drop i ws)) ≡ k
-part-long ws i k h = length-take-le k (drop i ws) (omega (arith, length-drop i ws))
+pub part_long : (ws : List ℕ) (i k : ℕ) → i + k ≤ length ws → length (take k (drop i ws)) ≡ k
+part_long ws i k h = length-take-le k (drop i ws) (omega (arith, length-drop i ws))
 
 pub loaded : (ws ls rs ks ts : List ℕ) → Formed ws
-    → ls ≡ take maxLinks (drop linksAt ws) → rs ≡ take maxHeld (drop ringAt ws) → ks ≡ take maxRecords (drop marksAt ws)
-    → ts ≡ take labels (drop totalsAt ws)
-    → Keeps ws (record { n = getD ws 0 0; count = getD ws 1 0; links = ls; marks = ks; ring = rs; top = getD ws 2 0; held = getD ws 3 0; totals = ts })
+    → ls ≡ take max_links (drop links_at ws) → rs ≡ take max_held (drop ring_at ws) → ks ≡ take max_records (drop marks_at ws)
+    → ts ≡ take labels (drop totals_at ws)
+    → Keeps ws (record { n = get_or ws 0 0; count = get_or ws 1 0; links = ls; marks = ks; ring = rs; top = get_or ws 2 0; held = get_or ws 3 0; totals = ts })
 loaded ws ls rs ks ts f e g h t = record {
-  ranged = f .ranged;
-  links = ap length e ∙ part-long ws linksAt maxLinks (omega (arith, f .long));
-  ring = ap length g ∙ part-long ws ringAt maxHeld (omega (arith, f .long));
-  marked = rw h (f .marked);
-  marks = ap length h ∙ part-long ws marksAt maxRecords (omega (arith, f .long));
-  totals = ap length t ∙ part-long ws totalsAt labels (omega (arith, f .long));
-  words = take-add totalsAt labels ws ∙ ap (λ (u : List ℕ). take totalsAt ws ++ u) (sym t) ∙ ap (λ (u : List ℕ). u ++ ts) marked;
+  ranged = f.ranged;
+  links = ap length e ∙ part_long ws links_at max_links (omega (arith, f.long));
+  ring = ap length g ∙ part_long ws ring_at max_held (omega (arith, f.long));
+  marked = rw h f.marked;
+  marks = ap length h ∙ part_long ws marks_at max_records (omega (arith, f.long));
+  totals = ap length t ∙ part_long ws totals_at labels (omega (arith, f.long));
+  words = take-add totals_at labels ws ∙ ap (λ (u : List ℕ). take totals_at ws ++ u) (sym t) ∙ ap (λ (u : List ℕ). u ++ ts) marked;
 }
   where
-    front : take marksAt ws ≡ (getD ws 0 0 ∷ getD ws 1 0 ∷ getD ws 2 0 ∷ getD ws 3 0 ∷ []) ++ ls ++ rs
+    front : take marks_at ws ≡ (get_or ws 0 0 ∷ get_or ws 1 0 ∷ get_or ws 2 0 ∷ get_or ws 3 0 ∷ []) ++ ls ++ rs
     front =
-        take-add ringAt maxHeld ws ∙ ap (λ (t : List ℕ). take ringAt ws ++ t) (sym g)
-        ∙ ap (λ (t : List ℕ). t ++ rs) (take-add linksAt maxLinks ws ∙ ap (λ (t : List ℕ). take linksAt ws ++ t) (sym e)
-        ∙ ap (λ (t : List ℕ). t ++ ls) (four ws (omega (arith, f .long))))
+        take-add ring_at max_held ws ∙ ap (λ (t : List ℕ). take ring_at ws ++ t) (sym g)
+        ∙ ap (λ (t : List ℕ). t ++ rs) (take-add links_at max_links ws ∙ ap (λ (t : List ℕ). take links_at ws ++ t) (sym e)
+        ∙ ap (λ (t : List ℕ). t ++ ls) (four ws (omega (arith, f.long))))
 
-    marked : take totalsAt ws ≡ (getD ws 0 0 ∷ getD ws 1 0 ∷ getD ws 2 0 ∷ getD ws 3 0 ∷ []) ++ ls ++ rs ++ ks
-    marked = take-add marksAt maxRecords ws ∙ ap (λ (u : List ℕ). take marksAt ws ++ u) (sym h) ∙ ap (λ (u : List ℕ). u ++ ks) front
+    marked : take totals_at ws ≡ (get_or ws 0 0 ∷ get_or ws 1 0 ∷ get_or ws 2 0 ∷ get_or ws 3 0 ∷ []) ++ ls ++ rs ++ ks
+    marked = take-add marks_at max_records ws ∙ ap (λ (u : List ℕ). take marks_at ws ++ u) (sym h) ∙ ap (λ (u : List ℕ). u ++ ks) front
 
-pub formed-keeps : (ws : List ℕ) → Formed ws → KeepsOne ws
-formed-keeps ws f = (_, loaded ws _ _ _ _ f refl refl refl refl)
+pub formed_keeps : (ws : List ℕ) → Formed ws → KeepsOne ws
+formed_keeps ws f = (_, loaded ws _ _ _ _ f refl refl refl refl)
 
-pub keeps-formed : (ws : List ℕ) → KeepsOne ws → Formed ws
-keeps-formed ws (r, k) = record {
-  long = keeps-long k;
-  ranged = rw (keeps-number k 0 (omega arith), keeps-number k 1 (omega arith), keeps-number k 2 (omega arith), keeps-number k 3 (omega arith)) (k .ranged);
-  marked = rw (keeps-marks k) (k .marked);
+pub keeps_formed : (ws : List ℕ) → KeepsOne ws → Formed ws
+keeps_formed ws (r, k) = record {
+  long = keeps_long k;
+  ranged = rw (keeps_number k 0 (omega arith), keeps_number k 1 (omega arith), keeps_number k 2 (omega arith), keeps_number k 3 (omega arith)) k.ranged;
+  marked = rw (keeps_marks k) k.marked;
 }
 
 -- the number 0 says that they were loaded
-pub load-done : {ws : List ℕ} {o : Outcome} → Loads ws o → answerNumber (o .answer) ≡ 0 → o .answer ≡ Done
-load-done {o = o} l z = go (o .answer) refl
+pub load_done : {ws : List ℕ} {o : Outcome} → Loads ws o → answer_number o.answer ≡ 0 → o.answer ≡ Done
+load_done {o = o} l z = go o.answer refl
   where
-    go : (a : Answer) → o .answer ≡ a → o .answer ≡ Done
+    go : (a : Answer) → o.answer ≡ a → o.answer ≡ Done
     go Done e = e
-    go (Refused k) e = answer-done (o .answer) (number not-open) (l .refused (λ d. let u : _≡_ {A = ℕ} 0 1 = cc in omega arith) .0) z
+    go (Refused k) e = answer_done o.answer (number not_open) (l.refused (λ d. let u : ◌≡◌ {A = ℕ} 0 1 = cc in omega arith)).0 z
 
 -- ---- edits
-pub edit-foreign : (c : Call) (ws : List ℕ) → Foreign ws → Edits c ws ws (number not-open)
-edit-foreign c ws f = record { refused = λ _. refl; past = refl; foreign = λ _. refl; steps = λ r k. absurd (f r k) }
+pub edit_foreign : (c : Call) (ws : List ℕ) → Foreign ws → Edits c ws ws (number not_open)
+edit_foreign c ws f = record { refused = λ _. refl; past = refl; foreign = λ _. refl; steps = λ r k. absurd (f r k) }
 
-pub edit-stepped : {c : Call} {before after : List ℕ} {k : ℕ} {r : Register} (o : Outcome) → Keeps before r → ((k ≡ 0 → ⊥) → after ≡ before)
-    → drop stateWords after ≡ drop stateWords before → Steps r c o → k ≡ answerNumber (o .answer) → Keeps after (o .register) → Edits c before after k
-edit-stepped {c} {before} {after} {k} {r} o w e p t q v = record {
+pub edit_stepped : {c : Call} {before after : List ℕ} {k : ℕ} {r : Register} (o : Outcome) → Keeps before r → ((k ≡ 0 → ⊥) → after ≡ before)
+    → drop state_words after ≡ drop state_words before → Steps r c o → k ≡ answer_number o.answer → Keeps after o.register → Edits c before after k
+edit_stepped {c} {before} {after} {k} {r} o w e p t q v = record {
   refused = e;
   past = p;
   foreign = λ f. absurd (f r w);
   steps =
-      λ s u. subst (λ (x : Register). (y : Outcome) × Steps x c y × (k ≡ answerNumber (y .answer)) × Keeps after (y .register)) (keeps-same w u) (o, t, q, v);
+      λ s u. subst (λ (x : Register). (y : Outcome) × Steps x c y × (k ≡ answer_number y.answer) × Keeps after y.register) (keeps_same w u) (o, t, q, v);
 }

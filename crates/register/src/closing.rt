@@ -1,25 +1,15 @@
 // Closing up the numbers: the records in use are numbered from 0 in their old order, and links and locks follow them. What it promises is stated in
 // specs/Calls.antt, what the functions here promise one another in specs/Closing.antt.
-use crate::Answer;
-use crate::FREE_MARK;
-use crate::LOCK_MARK;
-use crate::Outcome;
-use crate::Register;
-use crate::WITHDRAWN_MARK;
+ghost use Rattle.std.specs.Prelude.{◌≡◌, map, ◌++◌, ◌≤◌, length, take, drop};
+ghost use Rattle.book.specs.Basics.{over};
+ghost use Rattle.book.specs.Causes.{max_records};
+ghost use Rattle.book.specs.Book.{new_numbers};
+ghost use Rattle.register.specs.Calls.{Closes};
+ghost use Rattle.register.specs.Closing.{in_use, new_of, renamed_word, Ranked, Small, Moved};
+
 use crate::state::ranged;
-use links::FROM_UNIT;
-use links::from_of;
-use links::label_of;
-use links::to_of;
-ghost use mathlib.Core.Path.{_≡_};
-ghost use mathlib.Core.List.{map, _++_};
-ghost use Prim.Native.Nat.{_≤_};
-ghost use lib.ListN.{length, take, drop};
-ghost use Rattle·book.specs.Basics.{over};
-ghost use Rattle·book.specs.Causes.{maxRecords};
-ghost use Rattle·book.specs.Book.{newNumbers};
-ghost use Rattle·register·specs.specs.Calls.{Closes};
-ghost use Rattle·register·specs.specs.Closing.{inUse, newOf, renamedWord, Ranked, Small, Moved};
+use crate::{Answer, FREE_MARK, LOCK_MARK, Outcome, Register, WITHDRAWN_MARK};
+use links::{FROM_UNIT, from_of, label_of, to_of};
 
 // What stands in the list for the new number of a withdrawn record.
 pub const NO_NUMBER: u16 = 65535;
@@ -29,8 +19,8 @@ const RANKS: usize = book::MAX_RECORDS + 1;
 
 // How many of the records below each are in use: the new number of one that is; and in the last place how many there are in all.
 fn ranks(marks: &[u32]) -> [u32; RANKS]
-    requires { ⌜ length (now marks) ≡ maxRecords ⌝ }
-    ensures { λ r. ⌜ Ranked (now (marks .entry)) r ⌝ }
+    requires { length marks.now ≡ max_records }
+    ensures { Ranked marks.now result }
 {
     let mut ranks: [u32; RANKS] = [0; RANKS];
     let mut i = 0;
@@ -47,9 +37,9 @@ fn ranks(marks: &[u32]) -> [u32; RANKS]
 
 // The new number of each record below n, over the front of the list.
 fn tell(marks: &[u32], ranks: &[u32], n: usize, numbers: &mut [u16])
-    requires { ⌜ (length (now marks) ≡ maxRecords) × Ranked (now marks) (now ranks)
-        × (maxRecords ≤ length (now ranks)) × (n ≤ maxRecords) × (n ≤ length (now numbers)) ⌝ }
-    ensures { λ _. ⌜ now (numbers .exit) ≡ over (newNumbers (inUse (now (marks .entry))) n) (now (numbers .entry)) ⌝ }
+    requires { (length marks.now ≡ max_records) × Ranked marks.now ranks.now
+        × (max_records ≤ length ranks.now) × (n ≤ max_records) × (n ≤ length numbers.old) }
+    ensures { numbers.new ≡ over (new_numbers (in_use marks.now) n) numbers.old }
 {
     let mut i = 0;
     while i < n {
@@ -64,8 +54,8 @@ fn tell(marks: &[u32], ranks: &[u32], n: usize, numbers: &mut [u16])
 
 // A link's word with its records renamed.
 fn renamed(word: u32, ranks: &[u32]) -> u32
-    requires { ⌜ Small (now ranks) ⌝ }
-    ensures { λ r. ⌜ r ≡ renamedWord (newOf (now (ranks .entry))) «word» ⌝ }
+    requires { Small ranks.now }
+    ensures { result ≡ renamed_word (new_of ranks.now) «word» }
 {
     let from = ranks[from_of(word) as usize];
     let to = ranks[to_of(word) as usize];
@@ -74,8 +64,8 @@ fn renamed(word: u32, ranks: &[u32]) -> u32
 
 // The first count words with their records renamed.
 fn rename(words: &mut [u32], count: usize, ranks: &[u32])
-    requires { ⌜ (count ≤ length (now words)) × Small (now ranks) ⌝ }
-    ensures { λ _. ⌜ now (words .exit) ≡ map (renamedWord (newOf (now (ranks .entry)))) (take count (now (words .entry))) ++ drop count (now (words .entry)) ⌝ }
+    requires { (count ≤ length words.old) × Small ranks.now }
+    ensures { words.new ≡ map (renamed_word (new_of ranks.now)) (take count words.old) ++ drop count words.old }
 {
     let mut i = 0;
     while i < count {
@@ -86,8 +76,8 @@ fn rename(words: &mut [u32], count: usize, ranks: &[u32])
 
 // The locks of the first n records, each at its new number.
 fn moved(marks: &[u32], ranks: &[u32], n: usize) -> [u32; book::MAX_RECORDS]
-    requires { ⌜ (n ≤ length (now marks)) × (n ≤ maxRecords) × Small (now ranks) ⌝ }
-    ensures { λ r. ⌜ Moved (now (marks .entry)) (now (ranks .entry)) n r ⌝ }
+    requires { (n ≤ length marks.now) × (n ≤ max_records) × Small ranks.now }
+    ensures { Moved marks.now ranks.now n result }
 {
     let mut moved: [u32; book::MAX_RECORDS] = [FREE_MARK; book::MAX_RECORDS];
     let mut i = 0;
@@ -103,7 +93,7 @@ fn moved(marks: &[u32], ranks: &[u32], n: usize) -> [u32; book::MAX_RECORDS]
 impl Register {
     // The numbers closed up, and each old number's new one told: 21 with no record in use, then 13 if the list is shorter than the old n.
     pub fn close_up(self, numbers: &mut [u16]) -> Outcome
-        ensures { λ r. ⌜ Closes self (now (numbers .entry)) (now (numbers .exit)) r ⌝ }
+        ensures { Closes self numbers.old numbers.new result }
     {
         if !ranged(self.n, self.count, self.top, self.held) {
             return Outcome {

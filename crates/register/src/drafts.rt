@@ -1,18 +1,13 @@
 // A draft: a list of edits and undos, as words of a history, made all or none. They are made on copies of the register's arrays; if one is refused, the
 // register as it was is handed back. What is promised is stated in specs/Drafts.antt.
-use crate::Answer;
-use crate::Applied;
-use crate::Counters;
-use crate::DraftAnswer;
-use crate::Edited;
-use crate::Entry;
-use crate::Register;
+ghost use Rattle.register.specs.History.{word_call};
+ghost use Rattle.register.specs.Drafts.{unclosed, Drafts};
+ghost use Rattle.register.specs.Inner.{register_of, outcome_of, AsLong, DraftSteps};
+
 use crate::edits::edit;
 use crate::history::entry_at;
 use crate::state::number_of;
-ghost use Rattle·register·specs.specs.History.{wordCall};
-ghost use Rattle·register·specs.specs.Drafts.{unclosed, Drafts};
-ghost use Rattle·register·specs.specs.Inner.{registerOf, outcomeOf, AsLong, DraftSteps};
+use crate::{Answer, Applied, Counters, DraftAnswer, Edited, Entry, Register};
 
 // One call of a draft; a word that is none gives 15.
 fn edit_word(
@@ -23,9 +18,9 @@ fn edit_word(
     totals: &mut [u32],
     word: u64,
 ) -> Edited
-    requires { ⌜ AsLong (now links) (now marks) (now ring) (now totals) ⌝ }
-    ensures { λ r. ⌜ DraftSteps (registerOf counters (now (links .entry)) (now (marks .entry)) (now (ring .entry)) (now (totals .entry)))
-        (unclosed (wordCall «word»)) (outcomeOf r (now (links .exit)) (now (marks .exit)) (now (ring .exit)) (now (totals .exit))) ⌝ }
+    requires { AsLong links.old marks.old ring.old totals.old }
+    ensures { DraftSteps (register_of counters links.old marks.old ring.old totals.old)
+        (unclosed (word_call «word»)) (outcome_of result links.new marks.new ring.new totals.new) }
 {
     let entry = entry_at(word);
     match entry {
@@ -40,7 +35,7 @@ fn edit_word(
 impl Register {
     // Every call of a draft, or none.
     pub fn apply_all(self, calls: &[u64]) -> Applied
-        ensures { λ r. ⌜ Drafts self (now (calls .entry)) r ⌝ }
+        ensures { Drafts self calls.now result }
     {
         let mut counters = Counters {
             n: self.n,

@@ -1,52 +1,27 @@
 // The calls that edit a register: add, remove, lock, unlock, withdraw, reinstate, undo, and apply for any of them. All are one edit of the register's arrays
 // in place; a refused one leaves them. What they promise is stated in specs/Calls.antt.
-use crate::Answer;
-use crate::Call;
-use crate::Counters;
-use crate::Edited;
-use crate::FREE_MARK;
-use crate::KIND_UNIT;
-use crate::LABELS;
-use crate::LAST_HELD;
-use crate::LOCK_MARK;
-use crate::LOCKING;
-use crate::Linking;
-use crate::Marking;
-use crate::Outcome;
-use crate::REINSTATING;
-use crate::REMOVED;
-use crate::Register;
-use crate::UNLOCKING;
-use crate::WITHDRAWING;
-use crate::WITHDRAWN_MARK;
+ghost use Rattle.std.specs.Prelude.{◌≡◌, true, List, ℕ, ◌*◌, ◌≤◌, ◌<◌, length, take, set, eqb};
+ghost use Rattle.book.specs.Basics.{without};
+ghost use Rattle.book.specs.Causes.{first_number, max_records, max_links, max_held, labels};
+ghost use Rattle.book.specs.Book.{Edit, add, remove, lock, unlock, withdraw, reinstate, edit, undo};
+ghost use Rattle.links.specs.Ascending.{insert, Seam, stands_at};
+ghost use Rattle.register.specs.Packed.{kind_unit};
+ghost use Rattle.register.specs.Calls.{call_of, Steps};
+ghost use Rattle.register.specs.declared.Answer.TheVariants.{Done, Refused};
+ghost use Rattle.register.specs.Inner.{link_causes, register_of, outcome_of, AsLong, Whole, relinks, Holding, Changed, TakenBack, Remarks};
+
 use crate::state::ranged;
-use links::cut;
-use links::link_word;
-use links::lower_bound;
-use links::lower_total;
-use links::put;
-use links::raise_total;
-use links::stands;
-use links::touched;
-ghost use mathlib.Core.Path.{_≡_};
-ghost use mathlib.Core.Bool.{true};
-ghost use mathlib.Core.List.{List};
-ghost use Prim.Native.Nat.{ℕ, _*_, _≤_, _<_};
-ghost use lib.ListN.{length, take, set};
-ghost use lib.Dec.{eqb};
-ghost use Rattle·book.specs.Basics.{without};
-ghost use Rattle·book.specs.Causes.{firstNumber, maxRecords, maxLinks, maxHeld, labels};
-ghost use Rattle·book.specs.Book.{Edit, add, remove, lock, unlock, withdraw, reinstate, edit, undo};
-ghost use Rattle·links.specs.Ascending.{insert, Seam, standsAt};
-ghost use Rattle·register·specs.specs.Packed.{kindUnit};
-ghost use Rattle·register·specs.specs.Calls.{callOf, Steps};
-ghost use Rattle·register·specs.specs.declared.Answer.the-variants.{Done, Refused};
-ghost use Rattle·register·specs.specs.Inner.{linkCauses, registerOf, outcomeOf, AsLong, Whole, relinks, Holding, Changed, TakenBack, Remarks};
+use crate::{
+    Answer, Call, Counters, Edited, FREE_MARK, KIND_UNIT, LABELS, LAST_HELD, LOCK_MARK, LOCKING,
+    Linking, Marking, Outcome, REINSTATING, REMOVED, Register, UNLOCKING, WITHDRAWING,
+    WITHDRAWN_MARK,
+};
+use links::{cut, link_word, lower_bound, lower_total, put, raise_total, stands, touched};
 
 // The first cause against the ends and the label of a link, or 0.
 fn link_cause(n: u16, marks: &[u32], from: u16, label: u8, to: u16) -> u32
-    requires { ⌜ n ≤ length (now marks) ⌝ }
-    ensures { λ r. ⌜ r ≡ firstNumber (linkCauses n (now (marks .entry)) (record { from = from; label = label; to = to })) ⌝ }
+    requires { n ≤ length marks.now }
+    ensures { result ≡ first_number (link_causes n marks.now (record { from = from; label = label; to = to })) }
 {
     if n <= from {
         return book::NO_RECORD;
@@ -74,7 +49,7 @@ fn link_cause(n: u16, marks: &[u32], from: u16, label: u8, to: u16) -> u32
 
 // A refused edit: the counters as they were, and the number of the cause.
 fn refused(counters: Counters, number: u32) -> Edited
-    ensures { λ r. ⌜ r ≡ record { counters = counters; answer = Refused number } ⌝ }
+    ensures { result ≡ record { counters = counters; answer = Refused number } }
 {
     Edited {
         counters,
@@ -84,9 +59,9 @@ fn refused(counters: Counters, number: u32) -> Edited
 
 // An accepted edit: its word is held, in the place of the oldest where 256 are.
 fn hold(counters: Counters, ring: &mut [u32], word: u32) -> Edited
-    requires { ⌜ (counters .top < maxHeld) × (counters .held ≤ maxHeld) × (length (now ring) ≡ maxHeld) ⌝ }
-    ensures { λ r. ⌜ (r .answer ≡ Done) × ((links marks totals : List ℕ) → Holding (registerOf counters links marks (now (ring .entry)) totals) word
-        (registerOf (r .counters) links marks (now (ring .exit)) totals)) ⌝ }
+    requires { (counters.top < max_held) × (counters.held ≤ max_held) × (length ring.old ≡ max_held) }
+    ensures { (result.answer ≡ Done) × ((links marks totals : List ℕ) → Holding (register_of counters links marks ring.old totals) word
+        (register_of result.counters links marks ring.new totals)) }
 {
     let top = counters.top;
     let mut next = top + 1;
@@ -109,10 +84,10 @@ fn hold(counters: Counters, ring: &mut [u32], word: u32) -> Edited
 
 // The link of a word put in at its place, and its label's total with it.
 fn put_in(counters: Counters, links: &mut [u32], totals: &mut [u32], at: usize, x: u32) -> Counters
-    requires { ⌜ (counters .count < maxLinks) × (length (now links) ≡ maxLinks) × (length (now totals) ≡ labels) × Seam x (now links) (counters .count) at ⌝ }
-    ensures { λ r. ⌜ ((marks ring : List ℕ) → Changed (registerOf counters (now (links .entry)) marks ring (now (totals .entry)))
-        (record { links = insert x (take (counters .count) (now (links .entry))); marks = marks })
-        (registerOf r (now (links .exit)) marks ring (now (totals .exit)))) ⌝ }
+    requires { (counters.count < max_links) × (length links.old ≡ max_links) × (length totals.old ≡ labels) × Seam x links.old counters.count at }
+    ensures { (marks ring : List ℕ) → Changed (register_of counters links.old marks ring totals.old)
+        (record { links = insert x (take counters.count links.old); marks = marks })
+        (register_of result links.new marks ring totals.new) }
 {
     let mut changed = counters;
     put(links, changed.count, at, x);
@@ -123,11 +98,11 @@ fn put_in(counters: Counters, links: &mut [u32], totals: &mut [u32], at: usize, 
 
 // The link of a word taken out where it stands, and of its label's total.
 fn cut_out(counters: Counters, links: &mut [u32], totals: &mut [u32], at: usize, x: u32) -> Counters
-    requires { ⌜ (counters .count ≤ maxLinks) × (length (now links) ≡ maxLinks) × (length (now totals) ≡ labels) × Seam x (now links) (counters .count) at
-        × (standsAt (now links) (counters .count) at x ≡ true) ⌝ }
-    ensures { λ r. ⌜ ((marks ring : List ℕ) → Changed (registerOf counters (now (links .entry)) marks ring (now (totals .entry)))
-        (record { links = without eqb x (take (counters .count) (now (links .entry))); marks = marks })
-        (registerOf r (now (links .exit)) marks ring (now (totals .exit)))) ⌝ }
+    requires { (counters.count ≤ max_links) × (length links.old ≡ max_links) × (length totals.old ≡ labels) × Seam x links.old counters.count at
+        × (stands_at links.old counters.count at x ≡ true) }
+    ensures { (marks ring : List ℕ) → Changed (register_of counters links.old marks ring totals.old)
+        (record { links = without eqb x (take counters.count links.old); marks = marks })
+        (register_of result links.new marks ring totals.new) }
 {
     let mut changed = counters;
     cut(links, changed.count, at);
@@ -138,9 +113,9 @@ fn cut_out(counters: Counters, links: &mut [u32], totals: &mut [u32], at: usize,
 
 // A record's mark; a number that is no record's is passed over.
 fn set_mark(counters: Counters, marks: &mut [u32], x: u32, mark: u32) -> Counters
-    requires { ⌜ (counters .count ≤ maxLinks) × (length (now marks) ≡ maxRecords) ⌝ }
-    ensures { λ r. ⌜ ((links ring totals : List ℕ) → Changed (registerOf counters links (now (marks .entry)) ring totals)
-        (record { links = take (counters .count) links; marks = set (now (marks .entry)) x mark }) (registerOf r links (now (marks .exit)) ring totals)) ⌝ }
+    requires { (counters.count ≤ max_links) × (length marks.old ≡ max_records) }
+    ensures { (links ring totals : List ℕ) → Changed (register_of counters links marks.old ring totals)
+        (record { links = take counters.count links; marks = set marks.old x mark }) (register_of result links marks.new ring totals) }
 {
     let i = x as usize;
     if i < book::MAX_RECORDS {
@@ -158,9 +133,9 @@ fn taken_back(
     kind: u32,
     x: u32,
 ) -> Counters
-    requires { ⌜ (counters .count ≤ maxLinks) × (length (now links) ≡ maxLinks) × (length (now marks) ≡ maxRecords) × (length (now totals) ≡ labels) ⌝ }
-    ensures { λ r. ⌜ ((ring : List ℕ) → TakenBack (registerOf counters (now (links .entry)) (now (marks .entry)) ring (now (totals .entry))) «kind» x
-        (registerOf r (now (links .exit)) (now (marks .exit)) ring (now (totals .exit)))) ⌝ }
+    requires { (counters.count ≤ max_links) × (length links.old ≡ max_links) × (length marks.old ≡ max_records) × (length totals.old ≡ labels) }
+    ensures { (ring : List ℕ) → TakenBack (register_of counters links.old marks.old ring totals.old) «kind» x
+        (register_of result links.new marks.new ring totals.new) }
 {
     let count = counters.count;
     match kind {
@@ -195,9 +170,9 @@ fn relink(
     totals: &mut [u32],
     linking: Linking,
 ) -> Edited
-    requires { ⌜ Whole counters (now links) (now marks) (now ring) × (length (now totals) ≡ labels) ⌝ }
-    ensures { λ r. ⌜ Steps (registerOf counters (now (links .entry)) (now (marks .entry)) (now (ring .entry)) (now (totals .entry)))
-        (edit (relinks linking)) (outcomeOf r (now (links .exit)) (now (marks .entry)) (now (ring .exit)) (now (totals .exit))) ⌝ }
+    requires { Whole counters links.old marks.now ring.old × (length totals.old ≡ labels) }
+    ensures { Steps (register_of counters links.old marks.now ring.old totals.old)
+        (edit (relinks linking)) (outcome_of result links.new marks.now ring.new totals.new) }
 {
     let from = linking.from;
     let label = linking.label;
@@ -237,10 +212,10 @@ fn remark(
     x: u16,
     marking: Marking,
 ) -> Edited
-    requires { ⌜ Whole counters (now links) (now marks) (now ring) × (marking .kind ≤ 5 * kindUnit) ⌝ }
-    ensures { λ r. ⌜ ((e : Edit) (totals : List ℕ) → Remarks e x marking
-        → Steps (registerOf counters (now (links .entry)) (now (marks .entry)) (now (ring .entry)) totals) (edit e)
-        (outcomeOf r (now (links .entry)) (now (marks .exit)) (now (ring .exit)) totals)) ⌝ }
+    requires { Whole counters links.now marks.old ring.old × (marking.kind ≤ 5 * kind_unit) }
+    ensures { (e : Edit) (totals : List ℕ) → Remarks e x marking
+        → Steps (register_of counters links.now marks.old ring.old totals) (edit e)
+        (outcome_of result links.now marks.new ring.new totals) }
 {
     if counters.n <= x {
         return refused(counters, book::NO_RECORD);
@@ -269,9 +244,9 @@ fn undo(
     ring: &[u32],
     totals: &mut [u32],
 ) -> Edited
-    requires { ⌜ Whole counters (now links) (now marks) (now ring) × (length (now totals) ≡ labels) ⌝ }
-    ensures { λ r. ⌜ Steps (registerOf counters (now (links .entry)) (now (marks .entry)) (now (ring .entry)) (now (totals .entry))) undo
-        (outcomeOf r (now (links .exit)) (now (marks .exit)) (now (ring .entry)) (now (totals .exit))) ⌝ }
+    requires { Whole counters links.old marks.old ring.now × (length totals.old ≡ labels) }
+    ensures { Steps (register_of counters links.old marks.old ring.now totals.old) undo
+        (outcome_of result links.new marks.new ring.now totals.new) }
 {
     let held = counters.held;
     if held == 0 {
@@ -303,9 +278,9 @@ pub fn edit(
     totals: &mut [u32],
     call: Call,
 ) -> Edited
-    requires { ⌜ AsLong (now links) (now marks) (now ring) (now totals) ⌝ }
-    ensures { λ r. ⌜ Steps (registerOf counters (now (links .entry)) (now (marks .entry)) (now (ring .entry)) (now (totals .entry))) (callOf call)
-        (outcomeOf r (now (links .exit)) (now (marks .exit)) (now (ring .exit)) (now (totals .exit))) ⌝ }
+    requires { AsLong links.old marks.old ring.old totals.old }
+    ensures { Steps (register_of counters links.old marks.old ring.old totals.old) (call_of call)
+        (outcome_of result links.new marks.new ring.new totals.new) }
 {
     if !ranged(counters.n, counters.count, counters.top, counters.held) {
         return refused(counters, book::NOT_OPEN);
@@ -340,7 +315,7 @@ pub fn edit(
 impl Register {
     // Any edit, or an undo: the arrays are taken out, edited and put back.
     pub fn apply(self, call: Call) -> Outcome
-        ensures { λ r. ⌜ Steps self (callOf call) r ⌝ }
+        ensures { Steps self (call_of call) result }
     {
         let counters = Counters {
             n: self.n,
@@ -378,43 +353,43 @@ impl Register {
     }
 
     pub fn add(self, from: u16, label: u8, to: u16) -> Outcome
-        ensures { λ r. ⌜ Steps self (edit (add (record { from = from; label = label; to = to }))) r ⌝ }
+        ensures { Steps self (edit (add (record { from = from; label = label; to = to }))) result }
     {
         self.apply(Call::Add(from, label, to))
     }
 
     pub fn remove(self, from: u16, label: u8, to: u16) -> Outcome
-        ensures { λ r. ⌜ Steps self (edit (remove (record { from = from; label = label; to = to }))) r ⌝ }
+        ensures { Steps self (edit (remove (record { from = from; label = label; to = to }))) result }
     {
         self.apply(Call::Remove(from, label, to))
     }
 
     pub fn lock(self, record: u16) -> Outcome
-        ensures { λ r. ⌜ Steps self (edit (lock «record»)) r ⌝ }
+        ensures { Steps self (edit (lock «record»)) result }
     {
         self.apply(Call::Lock(record))
     }
 
     pub fn unlock(self, record: u16) -> Outcome
-        ensures { λ r. ⌜ Steps self (edit (unlock «record»)) r ⌝ }
+        ensures { Steps self (edit (unlock «record»)) result }
     {
         self.apply(Call::Unlock(record))
     }
 
     pub fn withdraw(self, record: u16) -> Outcome
-        ensures { λ r. ⌜ Steps self (edit (withdraw «record»)) r ⌝ }
+        ensures { Steps self (edit (withdraw «record»)) result }
     {
         self.apply(Call::Withdraw(record))
     }
 
     pub fn reinstate(self, record: u16) -> Outcome
-        ensures { λ r. ⌜ Steps self (edit (reinstate «record»)) r ⌝ }
+        ensures { Steps self (edit (reinstate «record»)) result }
     {
         self.apply(Call::Reinstate(record))
     }
 
     pub fn undo(self) -> Outcome
-        ensures { λ r. ⌜ Steps self undo r ⌝ }
+        ensures { Steps self undo result }
     {
         self.apply(Call::Undo)
     }

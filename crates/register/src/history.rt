@@ -1,19 +1,14 @@
 // A history as words of 64 bits: one call by its word, and a whole list of them. What they promise is stated in specs/History.antt.
-use crate::Answer;
-use crate::Call;
-use crate::Outcome;
-use crate::Register;
-use crate::state::empty;
-use crate::state::number_of;
-ghost use mathlib.Core.Path.{_≡_};
-ghost use Prim.Native.Nat.{_*_};
-ghost use lib.Dec.{leb};
-ghost use Rattle·book.specs.Causes.{maxRecords};
-ghost use Rattle·register·specs.specs.History.{kindCall, wordCall, entryCalls, callsOf, closings};
-ghost use Rattle·register·specs.specs.Replaying.{EntrySteps, Replays};
-ghost use Rattle·register·specs.specs.Entries.{entryOf};
-ghost use Rattle·register·specs.specs.Drafts.{unclosed};
-ghost use Rattle·register·specs.specs.Closing.{Roomed};
+ghost use Rattle.std.specs.Prelude.{◌≡◌, ◌*◌, leb};
+ghost use Rattle.book.specs.Causes.{max_records};
+ghost use Rattle.register.specs.History.{kind_call, word_call, entry_calls, calls_of, closings};
+ghost use Rattle.register.specs.Replaying.{EntrySteps, Replays};
+ghost use Rattle.register.specs.Entries.{entry_of};
+ghost use Rattle.register.specs.Drafts.{unclosed};
+ghost use Rattle.register.specs.Closing.{Roomed};
+
+use crate::state::{empty, number_of};
+use crate::{Answer, Call, Outcome, Register};
 
 // The kinds of calls, numbered as the program's frames are; closing up has no frame.
 pub const ADD_KIND: u64 = 2;
@@ -44,6 +39,7 @@ const WORD_FROM: u64 = WORD_LABEL * WORD_LABELS;
 const WORD_KIND: u64 = WORD_FROM * WORD_RECORDS;
 
 // What a kind and arguments ask for: a call, or none.
+#[derive(Clone, Copy)]
 pub enum Entry {
     Call(Call),
     NoCall,
@@ -51,7 +47,7 @@ pub enum Entry {
 
 // The call of a kind; of a record alone, `from` is the record.
 pub fn entry_of(kind: u64, from: u16, label: u8, to: u16) -> Entry
-    ensures { λ r. ⌜ entryOf r ≡ kindCall «kind» from label to ⌝ }
+    ensures { entry_of result ≡ kind_call «kind» from label to }
 {
     match kind {
         ADD_KIND => Entry::Call(Call::Add(from, label, to)),
@@ -67,7 +63,7 @@ pub fn entry_of(kind: u64, from: u16, label: u8, to: u16) -> Entry
 
 // The edit or undo of a word; a closing up is none.
 pub fn entry_at(word: u64) -> Entry
-    ensures { λ r. ⌜ entryOf r ≡ unclosed (wordCall «word») ⌝ }
+    ensures { entry_of result ≡ unclosed (word_call «word») }
 {
     let from = (word / WORD_FROM % WORD_RECORDS) as u16;
     let label = (word / WORD_LABEL % WORD_LABELS) as u8;
@@ -77,7 +73,7 @@ pub fn entry_at(word: u64) -> Entry
 
 // How many of the words of a list a closing up uses that is lent so many: no more than a register has records, and no more than there are.
 fn room_for(room: u64, length: usize) -> usize
-    ensures { λ r. ⌜ Roomed room length r ⌝ }
+    ensures { Roomed room length result }
 {
     if (book::MAX_RECORDS as u64) < room {
         if length < book::MAX_RECORDS {
@@ -93,7 +89,7 @@ fn room_for(room: u64, length: usize) -> usize
 
 // How many words of numbers a word of a history has: as many as a register has records for a closing up, else none.
 fn list_words(word: u64) -> usize
-    ensures { λ r. ⌜ r ≡ maxRecords * closings (entryCalls (wordCall «word»)) ⌝ }
+    ensures { result ≡ max_records * closings (entry_calls (word_call «word»)) }
 {
     if word / WORD_KIND == CLOSE_KIND {
         return book::MAX_RECORDS;
@@ -103,7 +99,7 @@ fn list_words(word: u64) -> usize
 
 // Whether so many words are enough for the closings up among the words of a history.
 fn lists_fit(words: &[u64], length: usize) -> bool
-    ensures { λ r. ⌜ r ≡ leb (maxRecords * closings (callsOf (now (words .entry)))) length ⌝ }
+    ensures { result ≡ leb (max_records * closings (calls_of words.now)) length }
 {
     let mut left = length;
     let mut i = 0;
@@ -121,7 +117,7 @@ fn lists_fit(words: &[u64], length: usize) -> bool
 impl Register {
     // Any call, by its word; a kind that does not exist gives 15. A closing up has the front of numbers for its list.
     pub fn step(self, word: u64, numbers: &mut [u16]) -> Outcome
-        ensures { λ r. ⌜ EntrySteps self (wordCall «word») (record { before = now (numbers .entry); after = now (numbers .exit) }) r ⌝ }
+        ensures { EntrySteps self (word_call «word») (record { before = numbers.old; after = numbers.new }) result }
     {
         if word / WORD_KIND == CLOSE_KIND {
             let room = room_for(word % WORD_KIND, numbers.len());
@@ -141,8 +137,8 @@ impl Register {
 // A whole history on a fresh register of n records, as words: told takes the number of each answer, numbers the list of each closing up, with 1,024 words
 // for each. A refused one hands back the register of no records.
 pub fn replay(n: u16, words: &[u64], told: &mut [u32], numbers: &mut [u16]) -> Outcome
-    ensures { λ r. ⌜ Replays n (now (words .entry)) (record { before = now (told .entry); after = now (told .exit) })
-        (record { before = now (numbers .entry); after = now (numbers .exit) }) r ⌝ }
+    ensures { Replays n words.now (record { before = told.old; after = told.new })
+        (record { before = numbers.old; after = numbers.new }) result }
 {
     let opened = Register::fresh(n);
     let answer = opened.answer;

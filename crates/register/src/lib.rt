@@ -2,6 +2,8 @@
 // calls that edit it, drafts.rt a list of them made all or none, closing.rt closing up its numbers, parting.rt the register without a record's links,
 // history.rt a history as words, questions.rt what questions read, words.rt its words.
 // What the calls promise is stated in specs/Calls.antt, specs/History.antt and specs/Questions.antt, about the plain book of the crate book.
+#![tactic(auto)]
+
 mod closing;
 mod drafts;
 mod edits;
@@ -11,30 +13,17 @@ mod questions;
 mod state;
 mod words;
 
-pub use history::ADD_KIND;
-pub use history::Entry;
-pub use history::LOCK_KIND;
-pub use history::REINSTATE_KIND;
-pub use history::REMOVE_KIND;
-pub use history::UNDO_KIND;
-pub use history::UNLOCK_KIND;
-pub use history::WITHDRAW_KIND;
-pub use history::entry_of;
-pub use history::replay;
+pub use history::{
+    ADD_KIND, Entry, LOCK_KIND, REINSTATE_KIND, REMOVE_KIND, UNDO_KIND, UNLOCK_KIND, WITHDRAW_KIND,
+    entry_of, replay,
+};
 pub use links::label_part;
 pub use parting::links_apart;
 pub use state::number_of;
-pub use words::STATE_WORDS;
-pub use words::edit_in;
-pub use words::fitting;
-pub use words::has_mark;
-pub use words::is_register;
-pub use words::links_in;
-pub use words::mark_in;
-pub use words::marks_in;
-pub use words::size_in;
-pub use words::total_in;
-pub use words::totals_in;
+pub use words::{
+    STATE_WORDS, edit_in, fitting, has_mark, is_register, links_in, mark_in, marks_in, size_in,
+    total_in, totals_in,
+};
 
 // The limits of the crate book, as wide as what is compared with them.
 const MAX_RECORDS: u16 = book::MAX_RECORDS as u16;
@@ -66,6 +55,7 @@ const LAST_HELD: usize = book::MAX_HELD - 1;
 
 // n records, and the mark of each; the first count words of links, ascending, are the links present; of ring, the held words before top are the latest accepted
 // edits; totals has the number of links of each label.
+#[derive(Clone, Copy)]
 pub struct Register {
     n: u16,
     count: usize,
@@ -78,12 +68,14 @@ pub struct Register {
 }
 
 // The answer to a call: accepted, or refused with the number of its cause.
+#[derive(Clone, Copy)]
 pub enum Answer {
     Done,
     Refused(u32),
 }
 
 // An edit or undo. A link's parts are from, label and to.
+#[derive(Clone, Copy)]
 pub enum Call {
     Add(u16, u8, u16),
     Remove(u16, u8, u16),
@@ -95,30 +87,35 @@ pub enum Call {
 }
 
 // What every call that makes or edits a register hands back.
+#[derive(Clone, Copy)]
 pub struct Outcome {
     pub register: Register,
     pub answer: Answer,
 }
 
 // The answer to a draft: every call made, or none, with the place of the first that is refused and its number.
+#[derive(Clone, Copy)]
 pub enum DraftAnswer {
     Made,
     Refused(usize, u32),
 }
 
 // What a draft hands back.
+#[derive(Clone, Copy)]
 pub struct Applied {
     pub register: Register,
     pub answer: DraftAnswer,
 }
 
 // The links of a register, as the first count of words.
+#[derive(Clone, Copy)]
 pub struct Links {
     pub words: [u32; book::MAX_LINKS],
     pub count: usize,
 }
 
 // The counters of a register.
+#[derive(Clone, Copy)]
 struct Counters {
     n: u16,
     count: usize,
@@ -127,12 +124,14 @@ struct Counters {
 }
 
 // What an edit of a register's arrays hands back beside them.
+#[derive(Clone, Copy)]
 struct Edited {
     counters: Counters,
     answer: Answer,
 }
 
 // A link put in or taken out.
+#[derive(Clone, Copy)]
 struct Linking {
     from: u16,
     label: u8,
@@ -141,6 +140,7 @@ struct Linking {
 }
 
 // A change of a record's mark: from which to which; the causes if the record has the second already, and if it has another; and what is held for it.
+#[derive(Clone, Copy)]
 struct Marking {
     from: u32,
     to: u32,

@@ -1,20 +1,17 @@
 // The register, and the words of its links, without the links that touch a record. What the first promises is stated in specs/Parting.antt.
+ghost use Rattle.std.specs.Prelude.{◌≡◌, ◌/◌, ◌≤◌, length, take};
+ghost use Rattle.links.specs.Parts.{label_unit};
+ghost use Rattle.links.specs.Totals.{Lowered};
+ghost use Rattle.register.specs.Parting.{filter, Without};
+ghost use Rattle.register.specs.Apart.{apart_word, Kept};
+
 use crate::Register;
 use crate::state::ranged;
-use links::from_of;
-use links::lower_total;
-use links::to_of;
-ghost use mathlib.Core.Path.{_≡_};
-ghost use Prim.Native.Nat.{_/_, _≤_};
-ghost use lib.ListN.{length, take};
-ghost use Rattle·links.specs.Parts.{labelUnit};
-ghost use Rattle·links.specs.Totals.{Lowered};
-ghost use Rattle·register·specs.specs.Parting.{filter, Without};
-ghost use Rattle·register·specs.specs.Apart.{apartWord, Kept};
+use links::{from_of, lower_total, to_of};
 
 // Whether the link of a word does not touch the record.
 fn stands_apart(word: u32, record: u16) -> bool
-    ensures { λ r. ⌜ r ≡ apartWord «record» «word» ⌝ }
+    ensures { result ≡ apart_word «record» «word» }
 {
     if from_of(word) == record as u32 {
         return false;
@@ -24,7 +21,7 @@ fn stands_apart(word: u32, record: u16) -> bool
 
 // The totals with one link less of the label of a link's word.
 fn lowered(totals: [u32; book::LABELS], word: u32) -> [u32; book::LABELS]
-    ensures { λ r. ⌜ Lowered («word» / labelUnit) totals r ⌝ }
+    ensures { Lowered («word» / label_unit) totals result }
 {
     let mut less = totals;
     lower_total(&mut less, word);
@@ -33,8 +30,8 @@ fn lowered(totals: [u32; book::LABELS], word: u32) -> [u32; book::LABELS]
 
 // The words of links that do not touch the record, copied to the front of a list; how many they are.
 pub fn links_apart(links: &[u32], record: u16, to: &mut [u32]) -> usize
-    requires { ⌜ length (now links) ≤ length (now to) ⌝ }
-    ensures { λ r. ⌜ (r ≤ length (now (links .entry))) × (take r (now (to .exit)) ≡ filter (apartWord «record») (now (links .entry))) ⌝ }
+    requires { length links.now ≤ length to.old }
+    ensures { (result ≤ length links.now) × (take result to.new ≡ filter (apart_word «record») links.now) }
 {
     let mut kept = 0;
     let mut i = 0;
@@ -50,6 +47,7 @@ pub fn links_apart(links: &[u32], record: u16, to: &mut [u32]) -> usize
 }
 
 // What is left of a register's words: how many, and their totals.
+#[derive(Clone, Copy)]
 struct Rest {
     count: usize,
     totals: [u32; book::LABELS],
@@ -57,8 +55,8 @@ struct Rest {
 
 // The first count words without those that touch the record, moved to the front.
 fn keep_apart(words: &mut [u32], count: usize, record: u16, totals: [u32; book::LABELS]) -> Rest
-    requires { ⌜ count ≤ length (now words) ⌝ }
-    ensures { λ r. ⌜ Kept «record» (take count (now (words .entry))) totals (r .totals) (now (words .exit)) (r .count) ⌝ }
+    requires { count ≤ length words.old }
+    ensures { Kept «record» (take count words.old) totals result.totals words.new result.count }
 {
     let mut left = totals;
     let mut kept = 0;
@@ -83,7 +81,7 @@ fn keep_apart(words: &mut [u32], count: usize, record: u16, totals: [u32; book::
 impl Register {
     // The register without the links that touch a record, in one pass: marks as they were, and nothing held. Contents out of range are left.
     pub fn without(self, record: u16) -> Register
-        ensures { λ r. ⌜ Without self «record» r ⌝ }
+        ensures { Without self «record» result }
     {
         if !ranged(self.n, self.count, self.top, self.held) {
             return self;

@@ -1,19 +1,14 @@
 // What questions read of a register: its size, links, marks and totals. See specs/Questions.antt.
-use crate::FREE_MARK;
-use crate::LABELS;
-use crate::LOCK_MARK;
-use crate::Links;
-use crate::MAX_RECORDS;
-use crate::Register;
-use crate::WITHDRAWN_MARK;
+ghost use Rattle.register.specs.Questions.{Sized, Listing, MarkList, Locking, Withdrawal, TotalList, Totals};
+
 use crate::state::ranged;
+use crate::{FREE_MARK, LABELS, LOCK_MARK, Links, MAX_RECORDS, Register, WITHDRAWN_MARK};
 use answers::Counted;
-ghost use Rattle·register·specs.specs.Questions.{Sized, Listing, MarkList, Locking, Withdrawal, TotalList, Totals};
 
 impl Register {
     // The number of records; none of contents out of range, which are those of no register.
     pub fn size(self) -> usize
-        ensures { λ r. ⌜ Sized self r ⌝ }
+        ensures { Sized self result }
     {
         if !ranged(self.n, self.count, self.top, self.held) {
             return 0;
@@ -23,7 +18,7 @@ impl Register {
 
     // The links; none of contents out of range.
     pub fn links(self) -> Links
-        ensures { λ r. ⌜ Listing self r ⌝ }
+        ensures { Listing self result }
     {
         let words = self.links;
         if !ranged(self.n, self.count, self.top, self.held) {
@@ -37,7 +32,7 @@ impl Register {
 
     // The mark of each record; contents out of range have no locked one and no withdrawn one.
     pub fn marks(self) -> [u32; book::MAX_RECORDS]
-        ensures { λ r. ⌜ MarkList self r ⌝ }
+        ensures { MarkList self result }
     {
         if !ranged(self.n, self.count, self.top, self.held) {
             return [FREE_MARK; book::MAX_RECORDS];
@@ -47,7 +42,7 @@ impl Register {
 
     // Whether a record is locked; none is of contents out of range.
     pub fn is_locked(self, record: u16) -> bool
-        ensures { λ r. ⌜ Locking self «record» r ⌝ }
+        ensures { Locking self «record» result }
     {
         if !ranged(self.n, self.count, self.top, self.held) {
             return false;
@@ -60,7 +55,7 @@ impl Register {
 
     // Whether a record is withdrawn; none is of contents out of range.
     pub fn is_withdrawn(self, record: u16) -> bool
-        ensures { λ r. ⌜ Withdrawal self «record» r ⌝ }
+        ensures { Withdrawal self «record» result }
     {
         if !ranged(self.n, self.count, self.top, self.held) {
             return false;
@@ -73,7 +68,7 @@ impl Register {
 
     // The total of each label; none of contents out of range.
     pub fn totals(self) -> [u32; book::LABELS]
-        ensures { λ r. ⌜ TotalList self r ⌝ }
+        ensures { TotalList self result }
     {
         if !ranged(self.n, self.count, self.top, self.held) {
             return [0; book::LABELS];
@@ -83,7 +78,7 @@ impl Register {
 
     // The number of links of a label, as it is kept: 16 of contents out of range, then 3 for a label above 25.
     pub fn total(self, label: u8) -> Counted
-        ensures { λ a. ⌜ Totals self label a ⌝ }
+        ensures { Totals self label result }
     {
         if !ranged(self.n, self.count, self.top, self.held) {
             return Counted::Refused(book::NOT_OPEN);

@@ -1,20 +1,16 @@
 // A register's numbers in range, a fresh register, and the number of an answer.
-use crate::Answer;
-use crate::FREE_MARK;
-use crate::MAX_RECORDS;
-use crate::Outcome;
-use crate::Register;
-ghost use mathlib.Core.Path.{_≡_};
-ghost use Prim.Native.Nat.{_≤_};
-ghost use Rattle·book.specs.Causes.{maxRecords};
-ghost use Rattle·book.specs.Book.{fresh};
-ghost use Rattle·register·specs.specs.Representation.{Represents};
-ghost use Rattle·register·specs.specs.Calls.{answerNumber, Opens};
-ghost use Rattle·register·specs.specs.Inner.{Guarded};
+ghost use Rattle.std.specs.Prelude.{◌≡◌, ◌≤◌};
+ghost use Rattle.book.specs.Causes.{max_records};
+ghost use Rattle.book.specs.Book.{fresh};
+ghost use Rattle.register.specs.Representation.{Represents};
+ghost use Rattle.register.specs.Calls.{answer_number, Opens};
+ghost use Rattle.register.specs.Inner.{Guarded};
+
+use crate::{Answer, FREE_MARK, MAX_RECORDS, Outcome, Register};
 
 // Whether the numbers are in range, as they are in every register that the engine made.
 pub fn ranged(n: u16, count: usize, top: usize, held: usize) -> bool
-    ensures { λ r. ⌜ Guarded n count top held r ⌝ }
+    ensures { Guarded n count top held result }
 {
     if MAX_RECORDS < n {
         return false;
@@ -33,8 +29,8 @@ pub fn ranged(n: u16, count: usize, top: usize, held: usize) -> bool
 
 // A register of n records with no link, no lock, no record withdrawn and nothing held.
 pub fn empty(n: u16) -> Register
-    requires { ⌜ n ≤ maxRecords ⌝ }
-    ensures { λ r. ⌜ Represents r (fresh n) ⌝ }
+    requires { n ≤ max_records }
+    ensures { Represents result (fresh n) }
 {
     Register {
         n,
@@ -51,7 +47,7 @@ pub fn empty(n: u16) -> Register
 impl Register {
     // A fresh register; with n outside 1 to 1,024 the answer is 1, and the register handed back has no records.
     pub fn fresh(n: u16) -> Outcome
-        ensures { λ r. ⌜ Opens n r ⌝ }
+        ensures { Opens n result }
     {
         if n < 1 {
             return Outcome {
@@ -74,7 +70,7 @@ impl Register {
 
 // An answer's number.
 pub fn number_of(a: Answer) -> u32
-    ensures { λ r. ⌜ r ≡ answerNumber a ⌝ }
+    ensures { result ≡ answer_number a }
 {
     match a {
         Answer::Done => 0,

@@ -1,30 +1,20 @@
 // A register kept as words by its caller: n, count, top, held, 4,096 words of links, 256 of the ring, 1,024 of marks, 26 of totals, in the front of a slice
 // of at least so many. Here alone stands where each of them is: what is read of such words without loading the register, and how it is loaded and stored.
 // What that promises is stated in specs/Words.antt.
-use crate::Answer;
-use crate::Call;
-use crate::Counters;
-use crate::LABELS;
-use crate::Outcome;
-use crate::Register;
-use crate::WITHDRAWN_MARK;
+ghost use Rattle.std.specs.Prelude.{◌≡◌, false, ◌≤◌, length, take, drop, get_or};
+ghost use Rattle.book.specs.Causes.{not_open, number};
+ghost use Rattle.register.specs.Marks.{has_mark, Marked};
+ghost use Rattle.register.specs.Calls.{call_of};
+ghost use Rattle.register.specs.Questions.{Totals};
+ghost use Rattle.register.specs.Inner.{KeepsOne, SizeIn, mark_in, Shown, Tested};
+ghost use Rattle.register.specs.Words.{OfWords, Edits};
+ghost use Rattle.register.specs.Inner.{Loads, Stores};
+ghost use Rattle.answers.specs.declared.Counted.TheVariants.{Refused};
+
 use crate::edits::edit;
-use crate::state::empty;
-use crate::state::ranged;
-use answers::Counted;
-use answers::copy_u32;
-ghost use mathlib.Core.Path.{_≡_};
-ghost use mathlib.Core.Bool.{false};
-ghost use Prim.Native.Nat.{_≤_};
-ghost use lib.ListN.{length, take, drop, getD};
-ghost use Rattle·book.specs.Causes.{not-open, number};
-ghost use Rattle·register·specs.specs.Marks.{hasMark, Marked};
-ghost use Rattle·register·specs.specs.Calls.{callOf};
-ghost use Rattle·register·specs.specs.Questions.{Totals};
-ghost use Rattle·register·specs.specs.Inner.{KeepsOne, SizeIn, markIn, Shown, Tested};
-ghost use Rattle·register·specs.specs.Words.{OfWords, Edits};
-ghost use Rattle·register·specs.specs.Inner.{Loads, Stores};
-ghost use Rattle·answers.specs.declared.Counted.the-variants.{Refused};
+use crate::state::{empty, ranged};
+use crate::{Answer, Call, Counters, LABELS, Outcome, Register, WITHDRAWN_MARK};
+use answers::{Counted, copy_u32};
 
 // The places of the counters, and of the first link, the ring, the first mark and the first total; and how many words a register has.
 const SIZE_AT: usize = 0;
@@ -50,7 +40,7 @@ const MOST_SIZE: u32 = book::MAX_RECORDS as u32;
 
 // How many of some words there is room for.
 pub fn fitting(words: &[u32], room: usize) -> usize
-    ensures { λ r. ⌜ (r ≤ length (now (words .entry))) × (r ≤ room) × (take r (now (words .entry)) ≡ take room (now (words .entry))) ⌝ }
+    ensures { (result ≤ length words.now) × (result ≤ room) × (take result words.now ≡ take room words.now) }
 {
     if room < words.len() {
         return room;
@@ -60,7 +50,7 @@ pub fn fitting(words: &[u32], room: usize) -> usize
 
 // A part of words, so many from a place on, or as many as there are.
 fn part<'a>(words: &'a [u32], at: usize, count: usize) -> &'a [u32]
-    ensures { λ r. ⌜ now r ≡ take count (drop at (now (words .entry))) ⌝ }
+    ensures { result.now ≡ take count (drop at words.now) }
 {
     let from = fitting(words, at);
     let rest = &words[from..];
@@ -70,7 +60,7 @@ fn part<'a>(words: &'a [u32], at: usize, count: usize) -> &'a [u32]
 
 // The word at a place, 0 past the last.
 fn word_at(words: &[u32], i: usize) -> u32
-    ensures { λ r. ⌜ r ≡ getD (now (words .entry)) i 0 ⌝ }
+    ensures { result ≡ get_or words.now i 0 }
 {
     if words.len() <= i {
         return 0;
@@ -80,7 +70,7 @@ fn word_at(words: &[u32], i: usize) -> u32
 
 // Whether every word is a mark. It looks at each, with no way out before the last, so that several are looked at in one step.
 fn marked(words: &[u32]) -> bool
-    ensures { λ r. ⌜ Tested (Marked (now (words .entry))) r ⌝ }
+    ensures { Tested (Marked words.now) result }
 {
     let mut ok = true;
     let mut i = 0;
@@ -95,7 +85,7 @@ fn marked(words: &[u32]) -> bool
 
 // Whether the front of words is a register's: as many as it has, counters in range, marks that are marks.
 pub fn is_register(words: &[u32]) -> bool
-    ensures { λ ok. ⌜ Tested (KeepsOne (now (words .entry))) ok ⌝ }
+    ensures { Tested (KeepsOne words.now) result }
 {
     if words.len() < STATE_WORDS {
         return false;
@@ -117,7 +107,7 @@ pub fn is_register(words: &[u32]) -> bool
 
 // The number of records; 0 of words that are no register's.
 pub fn size_in(words: &[u32]) -> u16
-    ensures { λ n. ⌜ SizeIn (now (words .entry)) n ⌝ }
+    ensures { SizeIn words.now result }
 {
     if !is_register(words) {
         return 0;
@@ -127,14 +117,14 @@ pub fn size_in(words: &[u32]) -> u16
 
 // The mark of a record, which is looked for among any words.
 pub fn mark_in(words: &[u32], record: u16) -> u32
-    ensures { λ m. ⌜ m ≡ markIn (now (words .entry)) «record» ⌝ }
+    ensures { result ≡ mark_in words.now «record» }
 {
     word_at(part(words, MARKS_AT, book::MAX_RECORDS), record as usize)
 }
 
 // Whether a record has a mark; none has of words that are no register's.
 pub fn has_mark(words: &[u32], record: u16, mark: u32) -> bool
-    ensures { λ t. ⌜ OfWords (now (words .entry)) (λ r u. u ≡ hasMark mark (r .marks) «record») false t ⌝ }
+    ensures { OfWords words.now (λ r u. u ≡ has_mark mark r.marks «record») false result }
 {
     if !is_register(words) {
         return false;
@@ -144,7 +134,7 @@ pub fn has_mark(words: &[u32], record: u16, mark: u32) -> bool
 
 // The number of links of a label: 16 of words that are no register's, then 3 for a label above 25.
 pub fn total_in(words: &[u32], label: u8) -> Counted
-    ensures { λ a. ⌜ OfWords (now (words .entry)) (λ r. Totals r label) (Refused (number not-open)) a ⌝ }
+    ensures { OfWords words.now (λ r. Totals r label) (Refused (number not_open)) result }
 {
     if !is_register(words) {
         return Counted::Refused(book::NOT_OPEN);
@@ -158,21 +148,21 @@ pub fn total_in(words: &[u32], label: u8) -> Counted
 
 // The links of a register, its marks of the records that there are, its totals: the words themselves; of other words some part of them.
 pub fn links_in<'a>(words: &'a [u32]) -> &'a [u32]
-    ensures { λ l. ⌜ Shown (now (words .entry)) (λ r. take (r .count) (r .links)) (now l) ⌝ }
+    ensures { Shown words.now (λ r. take r.count r.links) result.now }
 {
     let count = word_at(words, COUNT_AT) as usize;
     part(words, LINKS_AT, count)
 }
 
 pub fn marks_in<'a>(words: &'a [u32]) -> &'a [u32]
-    ensures { λ l. ⌜ Shown (now (words .entry)) (λ r. take (r .n) (r .marks)) (now l) ⌝ }
+    ensures { Shown words.now (λ r. take r.n r.marks) result.now }
 {
     let n = word_at(words, SIZE_AT) as usize;
     part(words, MARKS_AT, n)
 }
 
 pub fn totals_in<'a>(words: &'a [u32]) -> &'a [u32]
-    ensures { λ l. ⌜ Shown (now (words .entry)) (λ r. r .totals) (now l) ⌝ }
+    ensures { Shown words.now (λ r. r.totals) result.now }
 {
     part(words, TOTALS_AT, book::LABELS)
 }
@@ -182,7 +172,7 @@ pub fn totals_in<'a>(words: &'a [u32]) -> &'a [u32]
 // An edit or undo of the register whose words these are, by its number; 16 for words that are no register's. The links are edited where they stand, and the
 // rest in copies, which are put back if it is accepted.
 pub fn edit_in(words: &mut [u32], call: Call) -> u32
-    ensures { λ k. ⌜ Edits (callOf call) (now (words .entry)) (now (words .exit)) k ⌝ }
+    ensures { Edits (call_of call) words.old words.new result }
 {
     if !is_register(words) {
         return book::NOT_OPEN;
@@ -226,7 +216,7 @@ pub fn edit_in(words: &mut [u32], call: Call) -> u32
 impl Register {
     // The register of the words; words that are no register's are refused with 16, and the register handed back has no records.
     pub fn load(words: &[u32]) -> Outcome
-        ensures { λ r. ⌜ Loads (now (words .entry)) r ⌝ }
+        ensures { Loads words.now result }
     {
         if !is_register(words) {
             return Outcome {
@@ -260,7 +250,7 @@ impl Register {
     // The register's words in the front of a slice; false, and nothing written, if its counters or marks are out of range or the
     // slice is shorter than its words.
     pub fn store(self, words: &mut [u32]) -> bool
-        ensures { λ r. ⌜ Stores self (now (words .entry)) (now (words .exit)) r ⌝ }
+        ensures { Stores self words.old words.new result }
     {
         if words.len() < STATE_WORDS {
             return false;

@@ -1,34 +1,34 @@
 // The program's lines, written into a lent slice of bytes from a place on. What they are is defined in specs/Report.antt.
 // Each function hands back the place after what it wrote; the bytes before and after are as they were (specs/Written.antt).
-ghost use mathlib.Core.List.{[], _∷_};
-ghost use Prim.Native.Nat.{_+_, _*_, _≤_, _<_};
-ghost use lib.ListN.{length};
-ghost use Rattle·report·specs.specs.Report.{decimal, counted, pairLine, stepLine, labelLetter, senseSign, okText, noneText, refusedText, pairsText, chainText};
-ghost use Rattle·report·specs.specs.Report.{answerText, totalText};
-ghost use Rattle·answers.specs.Written.{Wrote};
-ghost use mathlib.Core.Path.{_≡_};
+#![tactic(auto)]
+
+ghost use Rattle.std.specs.Prelude.{[], ◌∷◌, ◌+◌, ◌*◌, ◌≤◌, ◌<◌, length, ◌≡◌};
+ghost use Rattle.report.specs.Report.{decimal, counted, pair_line, step_line, label_letter, sense_sign, ok_text, none_text, refused_text, pairs_text};
+ghost use Rattle.report.specs.Report.{chain_text};
+ghost use Rattle.report.specs.Report.{answer_text, total_text};
+ghost use Rattle.answers.specs.Written.{Wrote};
 
 // A pair word is from times this, and to; a step word its letter times this, and the record reached.
 const RECORD_UNIT: u32 = book::MAX_RECORDS as u32;
 
 pub fn put_byte(b: u8, out: &mut [u8], at: usize) -> usize
-    requires { ⌜ at < length (now out) ⌝ }
-    ensures { λ r. ⌜ Wrote at (b ∷ []) (now (out .entry)) (now (out .exit)) r ⌝ }
+    requires { at < length out.old }
+    ensures { Wrote at (b ∷ []) out.old out.new result }
 {
     out[at] = b;
     at + 1
 }
 
 pub fn put_text(text: &[u8], out: &mut [u8], at: usize) -> usize
-    requires { ⌜ at + length (now text) ≤ length (now out) ⌝ }
-    ensures { λ r. ⌜ Wrote at (now (text .entry)) (now (out .entry)) (now (out .exit)) r ⌝ }
+    requires { at + length text.now ≤ length out.old }
+    ensures { Wrote at text.now out.old out.new result }
 {
     answers::copy_u8(text, out, at)
 }
 
 pub fn put_decimal(n: u64, out: &mut [u8], at: usize) -> usize
-    requires { ⌜ at + length (decimal n) ≤ length (now out) ⌝ }
-    ensures { λ r. ⌜ Wrote at (decimal n) (now (out .entry)) (now (out .exit)) r ⌝ }
+    requires { at + length (decimal n) ≤ length out.old }
+    ensures { Wrote at (decimal n) out.old out.new result }
 {
     if n < 10 {
         return put_byte(48 + n as u8, out, at);
@@ -39,8 +39,8 @@ pub fn put_decimal(n: u64, out: &mut [u8], at: usize) -> usize
 
 // A line of a name and a number.
 fn put_counted(name: &[u8], k: u64, out: &mut [u8], at: usize) -> usize
-    requires { ⌜ at + length (counted (now name) k) ≤ length (now out) ⌝ }
-    ensures { λ r. ⌜ Wrote at (counted (now (name .entry)) k) (now (out .entry)) (now (out .exit)) r ⌝ }
+    requires { at + length (counted name.now k) ≤ length out.old }
+    ensures { Wrote at (counted name.now k) out.old out.new result }
 {
     let next = put_text(name, out, at);
     let end = put_decimal(k, out, next);
@@ -48,30 +48,30 @@ fn put_counted(name: &[u8], k: u64, out: &mut [u8], at: usize) -> usize
 }
 
 pub fn put_ok(out: &mut [u8], at: usize) -> usize
-    requires { ⌜ at + 3 ≤ length (now out) ⌝ }
-    ensures { λ r. ⌜ Wrote at okText (now (out .entry)) (now (out .exit)) r ⌝ }
+    requires { at + 3 ≤ length out.old }
+    ensures { Wrote at ok_text out.old out.new result }
 {
     put_text(b"ok\n", out, at)
 }
 
 pub fn put_none(out: &mut [u8], at: usize) -> usize
-    requires { ⌜ at + 5 ≤ length (now out) ⌝ }
-    ensures { λ r. ⌜ Wrote at noneText (now (out .entry)) (now (out .exit)) r ⌝ }
+    requires { at + 5 ≤ length out.old }
+    ensures { Wrote at none_text out.old out.new result }
 {
     put_text(b"none\n", out, at)
 }
 
 pub fn put_refused(k: u32, out: &mut [u8], at: usize) -> usize
-    requires { ⌜ at + 29 ≤ length (now out) ⌝ }
-    ensures { λ r. ⌜ Wrote at (refusedText k) (now (out .entry)) (now (out .exit)) r ⌝ }
+    requires { at + 29 ≤ length out.old }
+    ensures { Wrote at (refused_text k) out.old out.new result }
 {
     put_counted(b"refused ", k as u64, out, at)
 }
 
 // The text of an edit's answer, 0 if it is accepted.
 pub fn put_answer(k: u32, out: &mut [u8], at: usize) -> usize
-    requires { ⌜ at + 29 ≤ length (now out) ⌝ }
-    ensures { λ r. ⌜ Wrote at (answerText k) (now (out .entry)) (now (out .exit)) r ⌝ }
+    requires { at + 29 ≤ length out.old }
+    ensures { Wrote at (answer_text k) out.old out.new result }
 {
     if k == 0 {
         return put_ok(out, at);
@@ -80,15 +80,15 @@ pub fn put_answer(k: u32, out: &mut [u8], at: usize) -> usize
 }
 
 pub fn put_total(t: u64, out: &mut [u8], at: usize) -> usize
-    requires { ⌜ at + 27 ≤ length (now out) ⌝ }
-    ensures { λ r. ⌜ Wrote at (totalText 0 t) (now (out .entry)) (now (out .exit)) r ⌝ }
+    requires { at + 27 ≤ length out.old }
+    ensures { Wrote at (total_text 0 t) out.old out.new result }
 {
     put_counted(b"total ", t, out, at)
 }
 
 fn put_pair(w: u32, out: &mut [u8], at: usize) -> usize
-    requires { ⌜ at + 13 ≤ length (now out) ⌝ }
-    ensures { λ r. ⌜ Wrote at (pairLine w) (now (out .entry)) (now (out .exit)) r ⌝ }
+    requires { at + 13 ≤ length out.old }
+    ensures { Wrote at (pair_line w) out.old out.new result }
 {
     let next = put_decimal((w / RECORD_UNIT) as u64, out, at);
     put_counted(b" ", (w % RECORD_UNIT) as u64, out, next)
@@ -98,20 +98,20 @@ fn put_pair(w: u32, out: &mut [u8], at: usize) -> usize
 const LABELS: u32 = book::LABELS as u32;
 
 fn label_letter(k: u32) -> u8
-    ensures { λ r. ⌜ r ≡ labelLetter k ⌝ }
+    ensures { result ≡ label_letter k }
 {
     if k < LABELS { b'a' + k as u8 } else { b'?' }
 }
 
 fn sense_sign(s: u32) -> u8
-    ensures { λ r. ⌜ r ≡ senseSign s ⌝ }
+    ensures { result ≡ sense_sign s }
 {
     if s == 0 { b'+' } else { b'-' }
 }
 
 fn put_step(w: u32, out: &mut [u8], at: usize) -> usize
-    requires { ⌜ at + 9 ≤ length (now out) ⌝ }
-    ensures { λ r. ⌜ Wrote at (stepLine w) (now (out .entry)) (now (out .exit)) r ⌝ }
+    requires { at + 9 ≤ length out.old }
+    ensures { Wrote at (step_line w) out.old out.new result }
 {
     let head = [
         label_letter(w / RECORD_UNIT / 2),
@@ -124,8 +124,8 @@ fn put_step(w: u32, out: &mut [u8], at: usize) -> usize
 
 // The number of pairs, and a line for each that is listed.
 pub fn put_pairs(total: u64, words: &[u32], out: &mut [u8], at: usize) -> usize
-    requires { ⌜ at + 27 + 13 * length (now words) ≤ length (now out) ⌝ }
-    ensures { λ r. ⌜ Wrote at (pairsText total (now (words .entry))) (now (out .entry)) (now (out .exit)) r ⌝ }
+    requires { at + 27 + 13 * length words.now ≤ length out.old }
+    ensures { Wrote at (pairs_text total words.now) out.old out.new result }
 {
     let mut end = put_counted(b"pairs ", total, out, at);
     let mut i = 0;
@@ -137,8 +137,8 @@ pub fn put_pairs(total: u64, words: &[u32], out: &mut [u8], at: usize) -> usize
 }
 
 pub fn put_chain(words: &[u32], out: &mut [u8], at: usize) -> usize
-    requires { ⌜ at + 27 + 9 * length (now words) ≤ length (now out) ⌝ }
-    ensures { λ r. ⌜ Wrote at (chainText (now (words .entry))) (now (out .entry)) (now (out .exit)) r ⌝ }
+    requires { at + 27 + 9 * length words.now ≤ length out.old }
+    ensures { Wrote at (chain_text words.now) out.old out.new result }
 {
     let mut end = put_counted(b"chain ", words.len() as u64, out, at);
     let mut i = 0;

@@ -1,23 +1,21 @@
 // The relation of an expression, left at the front of the work, and what is read of it there.
+ghost use Rattle.std.specs.Prelude.{◌≡◌, List, ℕ, ◌<◌, ◌≤◌, length, get_or};
+ghost use Rattle.book.specs.Basics.{In};
+ghost use Rattle.book.specs.Causes.{max_records};
+ghost use Rattle.k2.specs.PairSets.{listed};
+ghost use Rattle.k2.specs.Bits.{bit_at};
+ghost use Rattle.bits.specs.BitSets.{Next as NextBit};
+ghost use Rattle.rows.specs.Rows.{flat};
+ghost use Rattle.paths.specs.Verdicts.{verdict};
+ghost use Rattle.query.specs.Asking.{max_pairs, Relates};
+ghost use Rattle.query.specs.Leaving.{Leaves};
+ghost use Rattle.answers.specs.declared.Counted.TheVariants.{Count};
+ghost use Rattle.rowpairs.specs.Evaluation.{Held, relation_in, Column, Known, Relating, RelatingOver, Members, JoinsSome, Joining};
+
 use crate::Related;
 use crate::running::leave_value;
 use answers::Counted;
 use register::Register;
-ghost use mathlib.Core.Path.{_≡_};
-ghost use mathlib.Core.List.{List};
-ghost use Prim.Native.Nat.{ℕ, _<_, _≤_};
-ghost use lib.ListN.{length, getD};
-ghost use Rattle·book.specs.Basics.{In};
-ghost use Rattle·book.specs.Causes.{maxRecords};
-ghost use Rattle·k2.specs.PairSets.{listed};
-ghost use Rattle·k2.specs.Bits.{bitAt};
-ghost use Rattle·bits.specs.BitSets.{Next as NextBit};
-ghost use Rattle·rows.specs.Rows.{flat};
-ghost use Rattle·paths.specs.Verdicts.{verdict};
-ghost use Rattle·query.specs.Asking.{maxPairs, Relates};
-ghost use Rattle·query.specs.Leaving.{Leaves};
-ghost use Rattle·answers.specs.declared.Counted.the-variants.{Count};
-ghost use Rattle·rowpairs·specs.specs.Evaluation.{Held, relationIn, Column, Known, Relating, RelatingOver, Members, JoinsSome, Joining};
 
 // The words of a relation's rows: 1,024 rows of 1,024 bits.
 const ROW_WORDS: usize = 16384;
@@ -40,10 +38,10 @@ fn leave(
     work: &mut [u64],
     left: &mut [u16],
 ) -> Counted
-    requires { ⌜ (n ≤ maxRecords) × (n ≤ length (now marks)) × (n ≤ length (now left)) ⌝ }
-    ensures { λ a. ⌜ Leaves (λ b. Known b n (now (links .entry)) (now (marks .entry)))
-        (verdict (now (text .entry))) (length (now (work .entry))) (relationIn (now (work .exit)) (now (left .exit))) a
-        × ((k : ℕ) → a ≡ Count k → (k ≡ n) × Held k (length (now (work .entry)))) ⌝ }
+    requires { (n ≤ max_records) × (n ≤ length marks.now) × (n ≤ length left.old) }
+    ensures { Leaves (λ b. Known b n links.now marks.now)
+        (verdict text.now) (length work.old) (relation_in work.new left.new) result
+        × ((k : ℕ) → result ≡ Count k → (k ≡ n) × Held k (length work.old)) }
 {
     let reading = reader::read(text);
     let read = reading.answer;
@@ -62,9 +60,9 @@ fn leave(
 
 // The relation of an expression, of what was read of a register, left at the front of the work. The work is that of trees.
 pub fn relate_over(marks: &[u32], links: &[u32], text: &[u8], work: &mut [u64]) -> Related
-    requires { ⌜ length (now marks) ≤ maxRecords ⌝ }
-    ensures { λ r. ⌜ RelatingOver (length (now (marks .entry))) (now (links .entry)) (now (marks .entry))
-        (verdict (now (text .entry))) (length (now (work .entry))) (now (work .exit)) r ⌝ }
+    requires { length marks.now ≤ max_records }
+    ensures { RelatingOver (length marks.now) links.now marks.now
+        (verdict text.now) (length work.old) work.new result }
 {
     let mut masks: [u16; book::MAX_RECORDS] = [0; book::MAX_RECORDS];
     let answer = leave(marks.len(), links, marks, text, work, &mut masks);
@@ -73,7 +71,7 @@ pub fn relate_over(marks: &[u32], links: &[u32], text: &[u8], work: &mut [u64]) 
 
 // The same of a register.
 pub fn relate(register: Register, text: &[u8], work: &mut [u64]) -> Related
-    ensures { λ r. ⌜ Relating register (verdict (now (text .entry))) (length (now (work .entry))) (now (work .exit)) r ⌝ }
+    ensures { Relating register (verdict text.now) (length work.old) work.new result }
 {
     let n = register.size();
     let links = register.links();
@@ -85,8 +83,8 @@ pub fn relate(register: Register, text: &[u8], work: &mut [u64]) -> Related
 
 // Records as a row of bits.
 pub fn record_row(records: &[u16]) -> [u64; RECORD_WORDS]
-    requires { ⌜ ((y : ℕ) → In y (now records) → y < maxRecords) ⌝ }
-    ensures { λ r. ⌜ (length r ≡ 16) × Members (now (records .entry)) (bitAt r) ⌝ }
+    requires { (y : ℕ) → In y records.now → y < max_records }
+    ensures { (length result ≡ 16) × Members records.now (bit_at result) }
 {
     let mut row: [u64; RECORD_WORDS] = [0; RECORD_WORDS];
     let mut i = 0;
@@ -99,9 +97,9 @@ pub fn record_row(records: &[u16]) -> [u64; RECORD_WORDS]
 
 // Whether a relation of n records joins record x to some record of a row of bits.
 pub fn joins_some(cells: &[u64], masks: &[u16], n: usize, x: usize, row: &[u64]) -> bool
-    requires { ⌜ Joining n (now cells) (now masks) x (now row) ⌝ }
-    ensures { λ t. ⌜ ((l : List ℕ) → Members l (bitAt (now (row .entry))) → ((y : ℕ) → In y l → y < n)
-        → JoinsSome (relationIn (now (cells .entry)) (now (masks .entry)) n x) l t) ⌝ }
+    requires { Joining n cells.now masks.now x row.now }
+    ensures { (l : List ℕ) → Members l (bit_at row.now) → ((y : ℕ) → In y l → y < n)
+        → JoinsSome (relation_in cells.now masks.now n x) l result }
 {
     let w = query::row_width(n);
     grid::meets(cells, masks[x], x * w, w, row)
@@ -109,8 +107,8 @@ pub fn joins_some(cells: &[u64], masks: &[u16], n: usize, x: usize, row: &[u64])
 
 // The first column of row x from y on that a relation of n records has, by the row's mask; n if there is none.
 fn next_column(cells: &[u64], mask: u16, n: usize, x: usize, y: usize) -> usize
-    requires { ⌜ (n ≤ maxRecords) × (x < n) × (y < maxRecords) ⌝ }
-    ensures { λ r. ⌜ ((ms : List ℕ) → getD ms x 0 ≡ mask → Column (relationIn (now (cells .entry)) ms n x) y n r) ⌝ }
+    requires { (n ≤ max_records) × (x < n) × (y < max_records) }
+    ensures { (ms : List ℕ) → get_or ms x 0 ≡ mask → Column (relation_in cells.now ms n x) y n result }
 {
     if mask == 0 {
         return n;
@@ -135,8 +133,8 @@ fn next_column(cells: &[u64], mask: u16, n: usize, x: usize, y: usize) -> usize
 
 // The first pair word from `from` on that a relation of n records has; the number after every pair word if there is none.
 pub fn next_pair(cells: &[u64], masks: &[u16], n: usize, from: usize) -> usize
-    requires { ⌜ (n ≤ maxRecords) × (n ≤ length (now masks)) × (from ≤ maxPairs) ⌝ }
-    ensures { λ r. ⌜ NextBit (flat (relationIn (now (cells .entry)) (now (masks .entry)) n)) from maxPairs r ⌝ }
+    requires { (n ≤ max_records) × (n ≤ length masks.now) × (from ≤ max_pairs) }
+    ensures { NextBit (flat (relation_in cells.now masks.now n)) from max_pairs result }
 {
     let mut p = from;
     while p < PAIR_WORDS {
@@ -155,8 +153,8 @@ pub fn next_pair(cells: &[u64], masks: &[u16], n: usize, from: usize) -> usize
 
 // How many pairs a relation of n records has.
 pub fn count_pairs(cells: &[u64], masks: &[u16], n: usize) -> usize
-    requires { ⌜ Held n (length (now cells)) × (n ≤ length (now masks)) ⌝ }
-    ensures { λ r. ⌜ r ≡ length (listed n (relationIn (now (cells .entry)) (now (masks .entry)) n)) ⌝ }
+    requires { Held n (length cells.now) × (n ≤ length masks.now) }
+    ensures { result ≡ length (listed n (relation_in cells.now masks.now n)) }
 {
     grid::count_pairs(cells, masks, n, query::row_width(n))
 }
@@ -164,7 +162,7 @@ pub fn count_pairs(cells: &[u64], masks: &[u16], n: usize) -> usize
 // The relation of an expression as rows of bits: bit from * 1024 + to of the first 16,384 words is 1 if the pair has a chain. The number of pairs is told.
 // The work is that of trees.
 pub fn relation(register: Register, text: &[u8], work: &mut [u64], rows: &mut [u64]) -> Counted
-    ensures { λ a. ⌜ Relates register (now (text .entry)) (length (now (work .entry))) (now (rows .entry)) (now (rows .exit)) a ⌝ }
+    ensures { Relates register text.now (length work.old) rows.old rows.new result }
 {
     let related = relate(register, text, work);
     let answer = related.answer;

@@ -1,30 +1,27 @@
 // The pairs of an expression, listed.
+ghost use Rattle.std.specs.Prelude.{◌≡◌, map, ◌++◌, ◌^◌, ◌<◌, ◌≤◌, length, take, drop};
+ghost use Rattle.book.specs.Causes.{max_records, max_links};
+ghost use Rattle.paths.specs.Questions.{Engine, work_for};
+ghost use Rattle.paths.specs.Verdicts.{verdict};
+ghost use Rattle.links.specs.Parts.{link_pair};
+ghost use Rattle.query.specs.Asking.{AsksFor, AsksPairs, AsksRows};
+ghost use Rattle.rowpairs.specs.Labels.{Alone, LetterListed};
+ghost use Rattle.register.specs.declared.Register.{Register};
+ghost use Rattle.register.specs.Reads.{ReadOf};
+ghost use Rattle.rowpairs.specs.Evaluation.{Runnable, Enough, ValueListed, KnownOf, Answering};
+
 use crate::LABELS;
-use crate::running::leave_value;
-use crate::running::lesser;
+use crate::running::{leave_value, lesser};
 use answers::Counted;
 use reader::Item;
 use register::Register;
-ghost use mathlib.Core.Path.{_≡_};
-ghost use mathlib.Core.List.{map, _++_};
-ghost use Prim.Native.Nat.{_^_, _<_, _≤_};
-ghost use lib.ListN.{length, take, drop};
-ghost use Rattle·book.specs.Causes.{maxRecords, maxLinks};
-ghost use Rattle·paths.specs.Questions.{Engine, workFor};
-ghost use Rattle·paths.specs.Verdicts.{verdict};
-ghost use Rattle·links.specs.Parts.{linkPair};
-ghost use Rattle·query.specs.Asking.{AsksFor, AsksPairs, AsksRows};
-ghost use Rattle·rowpairs·specs.specs.Labels.{Alone, LetterListed};
-ghost use Rattle·register.specs.declared.Register.{Register};
-ghost use Rattle·register.specs.Reads.{ReadOf};
-ghost use Rattle·rowpairs·specs.specs.Evaluation.{Runnable, Enough, ValueListed, KnownOf, Answering};
 
 // A link's word is label * LABEL_UNIT + its pair word.
 const LABEL_UNIT: u32 = 1048576;
 
 // The label of which the two sets have the plain letter alone; LABELS if they have others.
 fn only_label(forward: u32, against: u32) -> u8
-    ensures { λ r. ⌜ (r < 26 → (forward ≡ 2 ^ r) × (against ≡ 0)) ⌝ }
+    ensures { result < 26 → (forward ≡ 2 ^ result) × (against ≡ 0) }
 {
     if against != 0 {
         return LABELS;
@@ -41,7 +38,7 @@ fn only_label(forward: u32, against: u32) -> u8
 
 // The label of a code that is a plain letter alone; LABELS of any other.
 fn letter_alone(code: &[u64]) -> u8
-    ensures { λ r. ⌜ (r < 26 → Alone r (now (code .entry))) ⌝ }
+    ensures { result < 26 → Alone result code.now }
 {
     if code.len() != 1 {
         return LABELS;
@@ -55,8 +52,8 @@ fn letter_alone(code: &[u64]) -> u8
 
 // The pairs of links' words written to the list, as many as it takes; the words past them are left.
 fn write_links(words: &[u32], list: &mut [u32])
-    ensures { λ _. ⌜ now (list .exit) ≡ take (length (now (list .entry))) (map linkPair (now (words .entry)))
-        ++ drop (length (map linkPair (now (words .entry)))) (now (list .entry)) ⌝ }
+    ensures { list.new ≡ take (length list.old) (map link_pair words.now)
+        ++ drop (length (map link_pair words.now)) list.old }
 {
     let count = lesser(words.len(), list.len());
     let mut i = 0;
@@ -68,7 +65,7 @@ fn write_links(words: &[u32], list: &mut [u32])
 
 // A letter alone: the pairs of its links, ascending as the register's words are.
 fn list_letter(links: &[u32], label: u8, list: &mut [u32]) -> usize
-    ensures { λ r. ⌜ LetterListed (now (links .entry)) label (now (list .entry)) (now (list .exit)) r ⌝ }
+    ensures { LetterListed links.now label list.old list.new result }
 {
     let part = register::label_part(links, label);
     write_links(part, list);
@@ -84,8 +81,8 @@ fn list_value(
     work: &mut [u64],
     list: &mut [u32],
 ) -> usize
-    requires { ⌜ Runnable n (now marks) (now code) × Enough n (length (now work)) × (length (now links) ≤ maxLinks) ⌝ }
-    ensures { λ r. ⌜ ValueListed n (now (links .entry)) (now (marks .entry)) (now (code .entry)) (now (list .entry)) (now (list .exit)) r ⌝ }
+    requires { Runnable n marks.now code.now × Enough n (length work.old) × (length links.now ≤ max_links) }
+    ensures { ValueListed n links.now marks.now code.now list.old list.new result }
 {
     let label = letter_alone(code);
     if label < LABELS {
@@ -106,9 +103,9 @@ fn answer(
     work: &mut [u64],
     list: &mut [u32],
 ) -> Counted
-    requires { ⌜ Answering n (now links) (now marks) need ⌝ }
-    ensures { λ a. ⌜ ((d : Engine) → need ≡ workFor d n → (r : Register) → KnownOf r n (now (links .entry)) (now (marks .entry))
-        → AsksFor d r (verdict (now (text .entry))) (length (now (work .entry))) (now (list .entry)) (now (list .exit)) a) ⌝ }
+    requires { Answering n links.now marks.now need }
+    ensures { (d : Engine) → need ≡ work_for d n → (r : Register) → KnownOf r n links.now marks.now
+        → AsksFor d r (verdict text.now) (length work.old) list.old list.new result }
 {
     let reading = reader::read(text);
     let read = reading.answer;
@@ -133,9 +130,9 @@ pub fn pairs_over(
     work: &mut [u64],
     list: &mut [u32],
 ) -> Counted
-    requires { ⌜ (length (now marks) ≤ maxRecords) × (length (now links) ≤ maxLinks) ⌝ }
-    ensures { λ a. ⌜ ((self : Register) → ReadOf self (now (marks .entry)) (now (links .entry))
-        → AsksRows self (now (text .entry)) (length (now (work .entry))) (now (list .entry)) (now (list .exit)) a) ⌝ }
+    requires { (length marks.now ≤ max_records) × (length links.now ≤ max_links) }
+    ensures { (self : Register) → ReadOf self marks.now links.now
+        → AsksRows self text.now (length work.old) list.old list.new result }
 {
     let n = marks.len();
     answer(n, links, marks, text, query::rows_work(n), work, list)
@@ -149,9 +146,9 @@ pub fn pairs_over_as_trees(
     work: &mut [u64],
     list: &mut [u32],
 ) -> Counted
-    requires { ⌜ (length (now marks) ≤ maxRecords) × (length (now links) ≤ maxLinks) ⌝ }
-    ensures { λ a. ⌜ ((self : Register) → ReadOf self (now (marks .entry)) (now (links .entry))
-        → AsksPairs self (now (text .entry)) (length (now (work .entry))) (now (list .entry)) (now (list .exit)) a) ⌝ }
+    requires { (length marks.now ≤ max_records) × (length links.now ≤ max_links) }
+    ensures { (self : Register) → ReadOf self marks.now links.now
+        → AsksPairs self text.now (length work.old) list.old list.new result }
 {
     let n = marks.len();
     answer(n, links, marks, text, query::pairs_work(n), work, list)
@@ -159,7 +156,7 @@ pub fn pairs_over_as_trees(
 
 // The pairs of a register, with the work of rows.
 pub fn pairs_by_rows(register: Register, text: &[u8], work: &mut [u64], list: &mut [u32]) -> Counted
-    ensures { λ a. ⌜ AsksRows register (now (text .entry)) (length (now (work .entry))) (now (list .entry)) (now (list .exit)) a ⌝ }
+    ensures { AsksRows register text.now (length work.old) list.old list.new result }
 {
     let n = register.size();
     let marks = register.marks();
@@ -171,7 +168,7 @@ pub fn pairs_by_rows(register: Register, text: &[u8], work: &mut [u64], list: &m
 
 // The same with the promise of trees, and so with their work.
 pub fn pairs(register: Register, text: &[u8], work: &mut [u64], list: &mut [u32]) -> Counted
-    ensures { λ a. ⌜ AsksPairs register (now (text .entry)) (length (now (work .entry))) (now (list .entry)) (now (list .exit)) a ⌝ }
+    ensures { AsksPairs register text.now (length work.old) list.old list.new result }
 {
     let n = register.size();
     let marks = register.marks();

@@ -1,27 +1,23 @@
 // A code run on a stack of relations, whose value is left as the first.
+ghost use Rattle.std.specs.Prelude.{◌≡◌, List, ◌⊎◌, ℕ, suc, ◌+◌, ◌-◌, ◌*◌, ◌<◌, ◌≤◌, length, get_or, true};
+ghost use Rattle.book.specs.Book.{Book};
+ghost use Rattle.book.specs.Causes.{max_records};
+ghost use Rattle.k2.specs.PairSets.{union, diagonal};
+ghost use Rattle.paths.specs.Expressions.{Expr};
+ghost use Rattle.paths.specs.Chains.{asked};
+ghost use Rattle.paths.specs.Relations.{crossed_by};
+ghost use Rattle.paths.specs.Questions.{rows_work};
+ghost use Rattle.reader.specs.declared.items.Item.TheVariants.{Inverse};
+ghost use Rattle.reader.specs.Code.{item_of};
+ghost use Rattle.reader.specs.Letters.{letters_in};
+ghost use Rattle.reader.specs.Running.{operands};
+ghost use Rattle.grid.specs.Grid.{Space, within, first};
+ghost use Rattle.query.specs.Evaluation.{most_waiting, Ready, Coded, used_below, Lettered};
+ghost use Rattle.rowpairs.specs.Labels.{every_if};
+ghost use Rattle.rowpairs.specs.Evaluation.{Lent, LentFor, Runnable, Enough, Operates, Goes, Reading, ValueFirst};
+
 use crate::LABELS;
 use reader::Item;
-ghost use mathlib.Core.Path.{_≡_};
-ghost use mathlib.Core.List.{List};
-ghost use mathlib.Core.Logic.{_⊎_};
-ghost use Prim.Native.Nat.{ℕ, suc, _+_, _-_, _*_, _<_, _≤_};
-ghost use lib.ListN.{length, getD};
-ghost use mathlib.Core.Bool.{true};
-ghost use Rattle·book.specs.Book.{Book};
-ghost use Rattle·book.specs.Causes.{maxRecords};
-ghost use Rattle·k2.specs.PairSets.{union, diagonal};
-ghost use Rattle·paths.specs.Expressions.{Expr};
-ghost use Rattle·paths.specs.Chains.{asked};
-ghost use Rattle·paths.specs.Relations.{crossedBy};
-ghost use Rattle·paths.specs.Questions.{rowsWork};
-ghost use Rattle·reader.specs.declared.items.Item.the-variants.{Inverse};
-ghost use Rattle·reader.specs.Code.{itemOf};
-ghost use Rattle·reader.specs.Letters.{lettersIn};
-ghost use Rattle·reader.specs.Running.{operands};
-ghost use Rattle·grid.specs.Grid.{Space, within, first};
-ghost use Rattle·query.specs.Evaluation.{most-waiting, Ready, Coded, usedBelow, Lettered};
-ghost use Rattle·rowpairs·specs.specs.Labels.{everyIf};
-ghost use Rattle·rowpairs·specs.specs.Evaluation.{Lent, LentFor, Runnable, Enough, Operates, Goes, Reading, ValueFirst};
 
 // So many relations wait at once at the most.
 const WAITING: usize = 19;
@@ -39,6 +35,7 @@ const FEW_MASKS: usize = 4097;
 const EVERY_LABEL: u32 = 67108863;
 
 // An item of the code, and how many of its numbers it was read from.
+#[derive(Drop)]
 struct Next {
     item: Item,
     used: usize,
@@ -46,8 +43,8 @@ struct Next {
 
 // Every label if the set has this one, else none.
 fn every_if(set: u32, label: u8) -> u32
-    requires { ⌜ label < 26 ⌝ }
-    ensures { λ r. ⌜ r ≡ everyIf set label ⌝ }
+    requires { label < 26 }
+    ensures { result ≡ every_if set label }
 {
     if (set >> label) % 2 == 1 {
         return EVERY_LABEL;
@@ -65,10 +62,10 @@ fn put_letters(
     n: usize,
     w: usize,
 )
-    requires { ⌜ Space n w (n + n + 1) (length (now cells)) (length (now masks)) ⌝ }
-    ensures { λ _. ⌜ ((b : Book) (used : ℕ → ℕ) → Lettered b n (now (links .entry)) used
-        → first n w (now (cells .exit)) (now (masks .exit))
-        ≡ union (first n w (now (cells .entry)) (now (masks .entry))) (crossedBy (asked b) (lettersIn forward against))) ⌝ }
+    requires { Space n w (n + n + 1) (length cells.old) (length masks.old) }
+    ensures { (b : Book) (used : ℕ → ℕ) → Lettered b n links.now used
+        → first n w cells.new masks.new
+        ≡ union (first n w cells.old masks.old) (crossed_by (asked b) (letters_in forward against)) }
 {
     let mut label: u8 = 0;
     while label < LABELS {
@@ -84,9 +81,9 @@ fn put_letters(
 
 // Zero steps put into the first relation: each record in use joined to itself.
 fn put_zero_steps(marks: &[u32], cells: &mut [u64], masks: &mut [u16], n: usize, w: usize)
-    requires { ⌜ Space n w (n + n + 1) (length (now cells)) (length (now masks)) × (n ≤ length (now marks)) ⌝ }
-    ensures { λ _. ⌜ first n w (now (cells .exit)) (now (masks .exit))
-        ≡ union (first n w (now (cells .entry)) (now (masks .entry))) (within n (diagonal (usedBelow n (now (marks .entry))))) ⌝ }
+    requires { Space n w (n + n + 1) (length cells.old) (length masks.old) × (n ≤ length marks.now) }
+    ensures { first n w cells.new masks.new
+        ≡ union (first n w cells.old masks.old) (within n (diagonal (used_below n marks.now))) }
 {
     let used = query::in_use(marks, n);
     grid::put_diagonal(&used, cells, masks, n, w);
@@ -102,9 +99,9 @@ fn operate(
     w: usize,
     item: Item,
 )
-    requires { ⌜ Space n w (n + n + 1) (length (now cells)) (length (now masks)) × (n ≤ length (now marks)) ⌝ }
-    ensures { λ _. ⌜ Operates n w (now (links .entry)) (now (marks .entry)) item
-        (now (cells .entry)) (now (cells .exit)) (now (masks .entry)) (now (masks .exit)) ⌝ }
+    requires { Space n w (n + n + 1) (length cells.old) (length masks.old) × (n ≤ length marks.now) }
+    ensures { Operates n w links.now marks.now item
+        cells.old cells.new masks.old masks.new }
 {
     match item {
         Item::Letters(forward, against) => {
@@ -125,7 +122,7 @@ fn operate(
 
 // How many relations an item takes.
 fn operands_of(item: Item) -> usize
-    ensures { λ r. ⌜ r ≡ operands item ⌝ }
+    ensures { result ≡ operands item }
 {
     match item {
         Item::Letters(_, _) => 0,
@@ -148,9 +145,9 @@ fn step(
     count: usize,
     item: Item,
 ) -> usize
-    requires { ⌜ Lent n (suc (count - operands item)) (length (now cells)) (length (now masks)) × Ready item count × (n ≤ length (now marks)) ⌝ }
-    ensures { λ r. ⌜ Goes n (now (links .entry)) (now (marks .entry)) item (now (cells .entry))
-        (now (cells .exit)) (now (masks .entry)) (now (masks .exit)) count r ⌝ }
+    requires { Lent n (suc (count - operands item)) (length cells.old) (length masks.old) × Ready item count × (n ≤ length marks.now) }
+    ensures { Goes n links.now marks.now item cells.old
+        cells.new masks.old masks.new count result }
 {
     let w = query::row_width(n);
     let unit = n * w;
@@ -171,7 +168,7 @@ fn step(
 
 // Is the number at place i of the code `^`?
 fn inverts(code: &[u64], i: usize) -> bool
-    ensures { λ r. ⌜ (r ≡ true → (i < length (now (code .entry))) × (itemOf (getD (now (code .entry)) i 0) ≡ Inverse)) ⌝ }
+    ensures { result ≡ true → (i < length code.now) × (item_of (get_or code.now i 0) ≡ Inverse) }
 {
     if code.len() <= i {
         return false;
@@ -185,8 +182,8 @@ fn inverts(code: &[u64], i: usize) -> bool
 
 // The item at place i of the code. `^` right after letters is read with them: their links are crossed in the other sense.
 fn next_item(code: &[u64], i: usize) -> Next
-    requires { ⌜ i < length (now code) ⌝ }
-    ensures { λ r. ⌜ Reading (now (code .entry)) i r ⌝ }
+    requires { i < length code.now }
+    ensures { Reading code.now i result }
 {
     let item = reader::item_of(code[i]);
     if !inverts(code, i + 1) {
@@ -203,9 +200,9 @@ fn next_item(code: &[u64], i: usize) -> Next
 
 // The whole code: its value is left as the first relation.
 fn run(links: &[u32], marks: &[u32], cells: &mut [u64], masks: &mut [u16], n: usize, code: &[u64])
-    requires { ⌜ LentFor n (now code) (length (now cells)) (length (now masks)) × (n ≤ length (now marks))
-        × ((s : List ℕ) × (e : Expr) × Coded s e (now code)) ⌝ }
-    ensures { λ _. ⌜ ValueFirst n (now (links .entry)) (now (marks .entry)) (now (code .entry)) (now (cells .exit)) (now (masks .exit)) ⌝ }
+    requires { LentFor n code.now (length cells.old) (length masks.old) × (n ≤ length marks.now)
+        × ((s : List ℕ) × (e : Expr) × Coded s e code.now) }
+    ensures { ValueFirst n links.now marks.now code.now cells.new masks.new }
 {
     let mut count = 0;
     let mut i = 0;
@@ -219,7 +216,7 @@ fn run(links: &[u32], marks: &[u32], cells: &mut [u64], masks: &mut [u16], n: us
 
 // The lesser of two numbers.
 pub fn lesser(a: usize, b: usize) -> usize
-    ensures { λ r. ⌜ (r ≤ a) × (r ≤ b) × ((r ≡ a) ⊎ (r ≡ b)) ⌝ }
+    ensures { (result ≤ a) × (result ≤ b) × ((result ≡ a) ⊎ (result ≡ b)) }
 {
     if a < b {
         return a;
@@ -229,16 +226,16 @@ pub fn lesser(a: usize, b: usize) -> usize
 
 // Are the masks of a code of so many numbers few?
 fn few_masks(n: usize, long: usize) -> bool
-    requires { ⌜ n ≤ maxRecords ⌝ }
-    ensures { λ r. ⌜ (r ≡ true → (k : ℕ) → k ≤ most-waiting → k ≤ long → k * n + n < 4097) ⌝ }
+    requires { n ≤ max_records }
+    ensures { result ≡ true → (k : ℕ) → k ≤ most_waiting → k ≤ long → k * n + n < 4097 }
 {
     lesser(WAITING, long) * n + n < FEW_MASKS
 }
 
 // The first n masks copied.
 fn copy_masks(from: &[u16], to: &mut [u16], n: usize)
-    requires { ⌜ (n ≤ length (now from)) × (n ≤ length (now to)) ⌝ }
-    ensures { λ _. ⌜ ((k : ℕ) → k < n → getD (now (to .exit)) k 0 ≡ getD (now (from .entry)) k 0) ⌝ }
+    requires { (n ≤ length from.now) × (n ≤ length to.old) }
+    ensures { (k : ℕ) → k < n → get_or to.new k 0 ≡ get_or from.now k 0 }
 {
     let mut i = 0;
     while i < n {
@@ -257,8 +254,8 @@ fn leave_run(
     masks: &mut [u16],
     left: &mut [u16],
 )
-    requires { ⌜ LentFor n (now code) (length (now work)) (length (now masks)) × Runnable n (now marks) (now code) × (n ≤ length (now left)) ⌝ }
-    ensures { λ _. ⌜ ValueFirst n (now (links .entry)) (now (marks .entry)) (now (code .entry)) (now (work .exit)) (now (left .exit)) ⌝ }
+    requires { LentFor n code.now (length work.old) (length masks.old) × Runnable n marks.now code.now × (n ≤ length left.old) }
+    ensures { ValueFirst n links.now marks.now code.now work.new left.new }
 {
     run(links, marks, work, masks, n, code);
     copy_masks(masks, left, n);
@@ -273,8 +270,8 @@ fn leave_within(
     work: &mut [u64],
     left: &mut [u16],
 )
-    requires { ⌜ Runnable n (now marks) (now code) × (rowsWork n ≤ length (now work)) × (n ≤ length (now left)) ⌝ }
-    ensures { λ _. ⌜ ValueFirst n (now (links .entry)) (now (marks .entry)) (now (code .entry)) (now (work .exit)) (now (left .exit)) ⌝ }
+    requires { Runnable n marks.now code.now × (rows_work n ≤ length work.old) × (n ≤ length left.old) }
+    ensures { ValueFirst n links.now marks.now code.now work.new left.new }
 {
     if few_masks(n, code.len()) {
         let mut few: [u16; FEW_MASKS] = [0; FEW_MASKS];
@@ -295,8 +292,8 @@ pub fn leave_value(
     work: &mut [u64],
     left: &mut [u16],
 )
-    requires { ⌜ Runnable n (now marks) (now code) × Enough n (length (now work)) × (n ≤ length (now left)) ⌝ }
-    ensures { λ _. ⌜ ValueFirst n (now (links .entry)) (now (marks .entry)) (now (code .entry)) (now (work .exit)) (now (left .exit)) ⌝ }
+    requires { Runnable n marks.now code.now × Enough n (length work.old) × (n ≤ length left.old) }
+    ensures { ValueFirst n links.now marks.now code.now work.new left.new }
 {
     if work.len() < query::rows_work(n) {
         let mut own: [u64; FEW_WORDS] = [0; FEW_WORDS];

@@ -1,19 +1,16 @@
 // Sets of pairs of records below 1,024 as rows of bits, and their algebra: 1,024 rows of 16 words, so that bit p of the rows is the pair
 // word p, from * 1024 + to. A square of a row is one of its words: 64 columns.
-ghost use mathlib.Core.Path.{_≡_};
-ghost use mathlib.Core.Bool.{true};
-ghost use mathlib.Core.List.{_++_};
-ghost use Prim.Native.Nat.{ℕ, _/_, _≤_, _<_};
-ghost use lib.Dec.{eqb};
-ghost use lib.ListN.{length, take, drop};
-ghost use Rattle·book.specs.Causes.{maxRecords};
-ghost use Rattle·k2.specs.Sizes.{rowsWords};
-ghost use Rattle·k2.specs.Bits.{digit, bitAt};
-ghost use Rattle·k2.specs.PairSets.{Cells, IsSet, union, intersection, difference, transpose, product, diagonal};
-ghost use Rattle·bits.specs.BitSets.{none};
-ghost use Rattle·rows·specs.specs.Rows.{flat};
-ghost use Rattle·rows·specs.specs.RowSets.{noPairs, crossedWords, RowsOf, pairsIn};
-ghost use Rattle·rows·specs.specs.Steps.{Masked, rowAt, Occupied, Masks, Common, served, below, withRow, Serving, Multiplying};
+#![tactic(auto)]
+
+ghost use Rattle.std.specs.Prelude.{◌≡◌, true, ◌++◌, ℕ, ◌/◌, ◌≤◌, ◌<◌, eqb, length, take, drop};
+ghost use Rattle.book.specs.Causes.{max_records};
+ghost use Rattle.k2.specs.Sizes.{rows_words};
+ghost use Rattle.k2.specs.Bits.{digit, bit_at};
+ghost use Rattle.k2.specs.PairSets.{Cells, IsSet, union, intersection, difference, transpose, product, diagonal};
+ghost use Rattle.bits.specs.BitSets.{none};
+ghost use Rattle.rows.specs.Rows.{flat};
+ghost use Rattle.rows.specs.RowSets.{no_pairs, crossed_words, RowsOf, pairs_in};
+ghost use Rattle.rows.specs.Steps.{Masked, row_at, Occupied, Masks, Common, served, below, with_row, Serving, Multiplying};
 
 // A row has as many columns as there may be records; and so many cells are there in all.
 const COLUMNS: usize = book::MAX_RECORDS;
@@ -25,9 +22,9 @@ const ENTRY_UNIT: u32 = COLUMNS as u32;
 
 // The pairs of a that b lacks taken out of a.
 pub fn intersect(a: &mut [u64], b: &[u64])
-    requires { ⌜ (length (now a) ≡ rowsWords) × (length (now b) ≡ rowsWords) ⌝ }
-    ensures { λ _. ⌜ ((x y : Cells) → bitAt (now (a .entry)) ≡ flat x → bitAt (now (b .entry)) ≡ flat y
-        → bitAt (now (a .exit)) ≡ flat (intersection x y)) ⌝ }
+    requires { (length a.old ≡ rows_words) × (length b.now ≡ rows_words) }
+    ensures { (x y : Cells) → bit_at a.old ≡ flat x → bit_at b.now ≡ flat y
+        → bit_at a.new ≡ flat (intersection x y) }
 {
     let mut i = 0;
     while i < k2::ROWS_WORDS {
@@ -38,9 +35,9 @@ pub fn intersect(a: &mut [u64], b: &[u64])
 
 // The pairs of b taken out of a.
 pub fn minus(a: &mut [u64], b: &[u64])
-    requires { ⌜ (length (now a) ≡ rowsWords) × (length (now b) ≡ rowsWords) ⌝ }
-    ensures { λ _. ⌜ ((x y : Cells) → bitAt (now (a .entry)) ≡ flat x → bitAt (now (b .entry)) ≡ flat y
-        → bitAt (now (a .exit)) ≡ flat (difference x y)) ⌝ }
+    requires { (length a.old ≡ rows_words) × (length b.now ≡ rows_words) }
+    ensures { (x y : Cells) → bit_at a.old ≡ flat x → bit_at b.now ≡ flat y
+        → bit_at a.new ≡ flat (difference x y) }
 {
     let mut i = 0;
     while i < k2::ROWS_WORDS {
@@ -51,8 +48,8 @@ pub fn minus(a: &mut [u64], b: &[u64])
 
 // Rows that hold no pair.
 pub fn clear(rows: &mut [u64])
-    requires { ⌜ length (now rows) ≡ rowsWords ⌝ }
-    ensures { λ _. ⌜ bitAt (now (rows .exit)) ≡ flat noPairs ⌝ }
+    requires { length rows.old ≡ rows_words }
+    ensures { bit_at rows.new ≡ flat no_pairs }
 {
     let mut i = 0;
     while i < k2::ROWS_WORDS {
@@ -63,9 +60,9 @@ pub fn clear(rows: &mut [u64])
 
 // Each record of a set joined to itself; the set is lent as 1,024 bits.
 pub fn set_diagonal(rows: &mut [u64], records: &[u64])
-    requires { ⌜ (length (now rows) ≡ rowsWords) × (length (now records) ≡ 16) ⌝ }
-    ensures { λ _. ⌜ ((x : Cells) → bitAt (now (rows .entry)) ≡ flat x
-        → bitAt (now (rows .exit)) ≡ flat (union x (diagonal (bitAt (now (records .entry)))))) ⌝ }
+    requires { (length rows.old ≡ rows_words) × (length records.now ≡ 16) }
+    ensures { (x : Cells) → bit_at rows.old ≡ flat x
+        → bit_at rows.new ≡ flat (union x (diagonal (bit_at records.now))) }
 {
     let mut i = 0;
     while i < COLUMNS {
@@ -78,7 +75,7 @@ pub fn set_diagonal(rows: &mut [u64], records: &[u64])
 
 // Is a label in a set of labels?
 pub fn has_label(labels: u32, label: u32) -> bool
-    ensures { λ r. ⌜ r ≡ eqb (digit labels label) 1 ⌝ }
+    ensures { result ≡ eqb (digit labels label) 1 }
 {
     if 32 <= label {
         return false;
@@ -89,9 +86,9 @@ pub fn has_label(labels: u32, label: u32) -> bool
 // The pairs of link words put in: of links whose label is in `forward` as they are, of those whose label is in `against` exchanged. A pair
 // word is the word of a link of label 0.
 pub fn put_letters(words: &[u32], forward: u32, against: u32, rows: &mut [u64])
-    requires { ⌜ length (now rows) ≡ rowsWords ⌝ }
-    ensures { λ _. ⌜ ((x : Cells) → bitAt (now (rows .entry)) ≡ flat x
-        → bitAt (now (rows .exit)) ≡ flat (union x (crossedWords (now (words .entry)) forward against))) ⌝ }
+    requires { length rows.old ≡ rows_words }
+    ensures { (x : Cells) → bit_at rows.old ≡ flat x
+        → bit_at rows.new ≡ flat (union x (crossed_words words.now forward against)) }
 {
     let mut i = 0;
     while i < words.len() {
@@ -110,17 +107,17 @@ pub fn put_letters(words: &[u32], forward: u32, against: u32, rows: &mut [u64])
 
 // How many pairs the first n rows hold. Of the rows of a set below n they are the set's, ascending (RowLaws `pairs-in`).
 pub fn count_pairs(rows: &[u64], n: usize) -> usize
-    requires { ⌜ n ≤ maxRecords ⌝ }
-    ensures { λ r. ⌜ r ≡ length (pairsIn n (now (rows .entry))) ⌝ }
+    requires { n ≤ max_records }
+    ensures { result ≡ length (pairs_in n rows.now) }
 {
     bits::rank(rows, n * COLUMNS)
 }
 
 // Their words, ascending, as many as the list takes; the words past them are left.
 pub fn write_pairs(rows: &[u64], n: usize, out: &mut [u32])
-    requires { ⌜ (n ≤ maxRecords) × (length (now rows) ≡ rowsWords) ⌝ }
-    ensures { λ _. ⌜ now (out .exit) ≡ take (length (now (out .entry))) (pairsIn n (now (rows .entry)))
-        ++ drop (length (pairsIn n (now (rows .entry)))) (now (out .entry)) ⌝ }
+    requires { (n ≤ max_records) × (length rows.now ≡ rows_words) }
+    ensures { out.new ≡ take (length out.old) (pairs_in n rows.now)
+        ++ drop (length (pairs_in n rows.now)) out.old }
 {
     let mut t = 0;
     let mut q = 0;
@@ -144,8 +141,8 @@ pub fn write_pairs(rows: &[u64], n: usize, out: &mut [u32])
 
 // Are these the rows of a set of pairs below n?
 pub fn within(rows: &[u64], n: usize) -> bool
-    requires { ⌜ (n ≤ maxRecords) × (length (now rows) ≡ rowsWords) ⌝ }
-    ensures { λ r. ⌜ (r ≡ true → RowsOf n (now (rows .entry))) × (RowsOf n (now (rows .entry)) → r ≡ true) ⌝ }
+    requires { (n ≤ max_records) × (length rows.now ≡ rows_words) }
+    ensures { (result ≡ true → RowsOf n rows.now) × (RowsOf n rows.now → result ≡ true) }
 {
     let mut i = 0;
     while i < n {
@@ -160,8 +157,8 @@ pub fn within(rows: &[u64], n: usize) -> bool
 
 // The words of a row that are not empty, as bits.
 fn filled_words(row: &[u64]) -> u32
-    requires { ⌜ length (now row) ≡ 16 ⌝ }
-    ensures { λ r. ⌜ (r < 65536) × ((k : ℕ) → k < maxRecords → digit r (k / 64) ≡ 0 → bitAt (now (row .entry)) k ≡ 0) ⌝ }
+    requires { length row.now ≡ 16 }
+    ensures { (result < 65536) × ((k : ℕ) → k < max_records → digit result (k / 64) ≡ 0 → bit_at row.now k ≡ 0) }
 {
     let mut mask: u32 = 0;
     let mut s = 0;
@@ -176,17 +173,17 @@ fn filled_words(row: &[u64]) -> u32
 
 // The squares of row i that are not empty, as bits.
 pub fn squares(rows: &[u64], i: usize) -> u32
-    requires { ⌜ (length (now rows) ≡ rowsWords) × (i < maxRecords) ⌝ }
-    ensures { λ r. ⌜ (r < 65536) × Masked (bitAt (now (rows .entry))) i r ⌝ }
+    requires { (length rows.now ≡ rows_words) × (i < max_records) }
+    ensures { (result < 65536) × Masked (bit_at rows.now) i result }
 {
     filled_words(&rows[i * 16..i * 16 + 16])
 }
 
 // The rows below n that are not empty, ascending, each an entry: its squares * 1024 + its number. How many there are.
 fn occupied(rows: &[u64], n: usize, list: &mut [u32]) -> usize
-    requires { ⌜ (n ≤ maxRecords) × (length (now rows) ≡ rowsWords) × (length (now list) ≡ maxRecords) ⌝ }
-    ensures { λ m. ⌜ (m ≤ maxRecords) × Occupied (bitAt (now (rows .entry))) n (rowAt n m (now (list .exit))) m
-        × Masks (bitAt (now (rows .entry))) m (now (list .exit)) ⌝ }
+    requires { (n ≤ max_records) × (length rows.now ≡ rows_words) × (length list.old ≡ max_records) }
+    ensures { (result ≤ max_records) × Occupied (bit_at rows.now) n (row_at n result list.new) result
+        × Masks (bit_at rows.now) result list.new }
 {
     let mut m = 0;
     let mut i = 0;
@@ -205,9 +202,9 @@ fn occupied(rows: &[u64], n: usize, list: &mut [u32]) -> usize
 // first to the last of those in common, and in each over the records of row i from the first of row j on, lowest first, each tried in row j; it is
 // left at the first that serves. A square whose words have no bit in common is passed at once.
 fn serves(a: &[u64], i: usize, b: &[u64], j: usize, common: u32) -> u64
-    requires { ⌜ Serving (now a) i (now b) j common ⌝ }
-    ensures { λ r. ⌜ (Common (bitAt (now (a .entry))) (bitAt (now (b .entry))) i j common
-        → r ≡ served (bitAt (now (a .entry))) (bitAt (now (b .entry))) i j) ⌝ }
+    requires { Serving a.now i b.now j common }
+    ensures { Common (bit_at a.now) (bit_at b.now) i j common
+        → result ≡ served (bit_at a.now) (bit_at b.now) i j }
 {
     let mut found: u64 = 0;
     let mut s = u32::trailing_zeros(common) as usize;
@@ -244,10 +241,10 @@ fn product_row(
     m: usize,
     row: &mut [u64],
 )
-    requires { ⌜ Multiplying (now a) i mask (now columns) (now list) m (now row) ⌝ }
-    ensures { λ _. ⌜ ((n : ℕ) → Masked (bitAt (now (a .entry))) i mask → Occupied (bitAt (now (columns .entry))) n (rowAt n m (now (list .entry))) m
-        → Masks (bitAt (now (columns .entry))) m (now (list .entry)) → bitAt (now (row .entry)) ≡ none
-        → bitAt (now (row .exit)) ≡ below n (served (bitAt (now (a .entry))) (bitAt (now (columns .entry))) i)) ⌝ }
+    requires { Multiplying a.now i mask columns.now list.now m row.old }
+    ensures { (n : ℕ) → Masked (bit_at a.now) i mask → Occupied (bit_at columns.now) n (row_at n m list.now) m
+        → Masks (bit_at columns.now) m list.now → bit_at row.old ≡ none
+        → bit_at row.new ≡ below n (served (bit_at a.now) (bit_at columns.now) i) }
 {
     let mut t = 0;
     while t < m {
@@ -265,8 +262,8 @@ fn product_row(
 
 // A row stored as row i.
 fn store_row(row: &[u64], rows: &mut [u64], i: usize)
-    requires { ⌜ (length (now row) ≡ 16) × (length (now rows) ≡ rowsWords) × (i < maxRecords) ⌝ }
-    ensures { λ _. ⌜ bitAt (now (rows .exit)) ≡ withRow i (bitAt (now (row .entry))) (bitAt (now (rows .entry))) ⌝ }
+    requires { (length row.now ≡ 16) × (length rows.old ≡ rows_words) × (i < max_records) }
+    ensures { bit_at rows.new ≡ with_row i (bit_at row.now) (bit_at rows.old) }
 {
     let mut s = 0;
     while s < 16 {
@@ -277,9 +274,9 @@ fn store_row(row: &[u64], rows: &mut [u64], i: usize)
 
 // The product, left in a; the second operand is lent by its columns, transposed. A row of the product depends on that row of a alone.
 pub fn compose(a: &mut [u64], columns: &[u64], n: usize)
-    requires { ⌜ (n ≤ maxRecords) × (length (now a) ≡ rowsWords) × (length (now columns) ≡ rowsWords) ⌝ }
-    ensures { λ _. ⌜ ((x y : Cells) → IsSet n x → IsSet n y → bitAt (now (a .entry)) ≡ flat x → bitAt (now (columns .entry)) ≡ flat (transpose y)
-        → bitAt (now (a .exit)) ≡ flat (product n x y)) ⌝ }
+    requires { (n ≤ max_records) × (length a.old ≡ rows_words) × (length columns.now ≡ rows_words) }
+    ensures { (x y : Cells) → IsSet n x → IsSet n y → bit_at a.old ≡ flat x → bit_at columns.now ≡ flat (transpose y)
+        → bit_at a.new ≡ flat (product n x y) }
 {
     let mut list: [u32; COLUMNS] = [0; COLUMNS];
     let m = occupied(columns, n, &mut list);

@@ -1,21 +1,18 @@
 // The first chain: its links as arcs, the levels backward, the walk forward. What is answered is stated in specs/Steps.antt.
-use crate::Ends;
-use crate::Found;
-use crate::Route;
+ghost use Rattle.std.specs.Prelude.{◌≡◌, true, length};
+ghost use Rattle.paths.specs.Expressions.{Expr};
+ghost use Rattle.paths.specs.Chains.{Graph};
+ghost use Rattle.paths.specs.Inside.{Inside};
+ghost use Rattle.automaton.specs.Automata.{automaton};
+ghost use Rattle.automaton.specs.Masks.{Masked};
+ghost use Rattle.arcs.specs.Arcs.{Spans};
+ghost use Rattle.search.specs.Levels.{Setting};
+ghost use Rattle.search.specs.Steps.{Untouched, Answered};
+ghost use Rattle.search.specs.Room.{SearchAsked, ChainAsked};
+
 use crate::levels::backward;
 use crate::walk::forward;
-ghost use mathlib.Core.Path.{_≡_};
-ghost use mathlib.Core.Bool.{true};
-ghost use lib.ListN.{length};
-ghost use Rattle·paths.specs.Expressions.{Expr};
-ghost use Rattle·paths.specs.Chains.{Graph};
-ghost use Rattle·paths.specs.ChainLaws.{Inside};
-ghost use Rattle·automaton.specs.Automata.{automaton};
-ghost use Rattle·automaton.specs.Masks.{Masked};
-ghost use Rattle·arcs.specs.Arcs.{Spans};
-ghost use Rattle·search·specs.specs.Levels.{Setting};
-ghost use Rattle·search·specs.specs.Steps.{Untouched, Answered};
-ghost use Rattle·search·specs.specs.Room.{SearchAsked, ChainAsked};
+use crate::{Ends, Found, Route};
 
 // The first of the shortest chains between the two ends along the arcs that are of use, by the tables of an automaton.
 fn along(
@@ -27,11 +24,11 @@ fn along(
     work: &mut [u64],
     out: &mut [u32],
 ) -> Found
-    requires { ⌜ SearchAsked (now arcs) (now follow) (now predecessors) (now enter) ends (now work) ⌝ }
-    ensures { λ r. ⌜ Untouched (now (out .entry)) (now (out .exit)) r
-        × ((g : Graph) (e : Expr) → Setting g (automaton e) (now (follow .entry)) (now (predecessors .entry)) (now (enter .entry)) (ends .accepting) (ends .n)
-        (now (arcs .entry)) (length (now (arcs .entry))) → g .inUse (ends .from) ≡ true → g .inUse (ends .to) ≡ true
-        → Answered g e (ends .from) (ends .to) (now (out .entry)) (now (out .exit)) r) ⌝ }
+    requires { SearchAsked arcs.now follow.now predecessors.now enter.now ends work.old }
+    ensures { Untouched out.old out.new result
+        × ((g : Graph) (e : Expr) → Setting g (automaton e) follow.now predecessors.now enter.now ends.accepting ends.n
+        arcs.now (length arcs.now) → g.in_use ends.from ≡ true → g.in_use ends.to ≡ true
+        → Answered g e ends.from ends.to out.old out.new result) }
 {
     let n = ends.n;
     let from = ends.from;
@@ -62,11 +59,11 @@ pub fn first_chain(
     work: &mut [u64],
     out: &mut [u32],
 ) -> Found
-    requires { ⌜ ChainAsked (now links) (now follow) (now predecessors) (now enter) ends (now work) ⌝ }
-    ensures { λ r. ⌜ Untouched (now (out .entry)) (now (out .exit)) r
-        × ((g : Graph) (e : Expr) → g .n ≡ ends .n → Inside g → Spans (now (links .entry)) (length (now (links .entry))) g
-        → Masked (now (follow .entry)) (now (predecessors .entry)) (now (enter .entry)) (ends .accepting) (automaton e) → g .inUse (ends .from) ≡ true
-        → g .inUse (ends .to) ≡ true → Answered g e (ends .from) (ends .to) (now (out .entry)) (now (out .exit)) r) ⌝ }
+    requires { ChainAsked links.now follow.now predecessors.now enter.now ends work.old }
+    ensures { Untouched out.old out.new result
+        × ((g : Graph) (e : Expr) → g.n ≡ ends.n → Inside g → Spans links.now (length links.now) g
+        → Masked follow.now predecessors.now enter.now ends.accepting (automaton e) → g.in_use ends.from ≡ true
+        → g.in_use ends.to ≡ true → Answered g e ends.from ends.to out.old out.new result) }
 {
     if links.len() <= FEW_LINKS {
         let mut few = [0u32; arcs::FEW_ARCS];

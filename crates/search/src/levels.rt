@@ -1,28 +1,22 @@
 // The levels backward from the end: the states from which it is so many steps away, each with its number in the lent work.
 // What the functions give is stated in specs/Levels.antt and specs/Frontiers.antt.
-use crate::Ends;
-use crate::Entry;
-use crate::LETTER_UNIT;
-use crate::LETTERS;
-use crate::RECORD_UNIT;
+ghost use Rattle.std.specs.Prelude.{◌≡◌, List, ℕ, ◌+◌, ◌*◌, ◌<◌, ◌≤◌, length, get_or};
+ghost use Rattle.book.specs.Causes.{max_records};
+ghost use Rattle.paths.specs.Chains.{Graph};
+ghost use Rattle.automaton.specs.Automata.{Automaton};
+ghost use Rattle.arcs.specs.Arcs.{max_arcs, arc_to};
+ghost use Rattle.search.specs.Levels.{Setting, Stamped, Committed, Sought};
+ghost use Rattle.search.specs.Frontiers.{Levelling, Added, Listed, Frontier, Zero};
+ghost use Rattle.search.specs.Room.{ByIndex, Queue, CrossAsked, CommitAsked, LevelsAsked};
+
 use crate::states::spread;
-ghost use mathlib.Core.Path.{_≡_};
-ghost use mathlib.Core.List.{List};
-ghost use Prim.Native.Nat.{ℕ, _+_, _*_, _<_, _≤_};
-ghost use lib.ListN.{length, getD};
-ghost use Rattle·book.specs.Causes.{maxRecords};
-ghost use Rattle·paths.specs.Chains.{Graph};
-ghost use Rattle·automaton.specs.Automata.{Automaton};
-ghost use Rattle·arcs.specs.Arcs.{maxArcs, arcTo};
-ghost use Rattle·search·specs.specs.Levels.{Setting, Stamped, Committed, Sought};
-ghost use Rattle·search·specs.specs.Frontiers.{Levelling, Added, Listed, Frontier, Zero};
-ghost use Rattle·search·specs.specs.Room.{ByIndex, Queue, CrossAsked, CommitAsked, LevelsAsked};
+use crate::{Ends, Entry, LETTER_UNIT, LETTERS, RECORD_UNIT};
 
 // The states of the entry, if its record is below n, besides those of next, whose records are on the list. How many are they now?
 pub(crate) fn add_states(next: &mut [u64], list: &mut [u16], entry: Entry) -> usize
-    requires { ⌜ Queue (now next) (now list) entry ⌝ }
-    ensures { λ k. ⌜ Listed (now (list .exit)) k (entry .n) (now (next .exit))
-        × Added (now (next .entry)) (entry .n) (entry .at) (entry .states) (now (next .exit)) ⌝ }
+    requires { Queue next.old list.old entry }
+    ensures { Listed list.new result entry.n next.new
+        × Added next.old entry.n entry.at entry.states next.new }
 {
     let at = entry.at;
     let queued = entry.queued;
@@ -52,12 +46,12 @@ fn into(
     list: &mut [u16],
     entry: Entry,
 ) -> usize
-    requires { ⌜ (length (now predecessors) ≡ 64) × CrossAsked arcTo (now arcs) (now index) (now enter) (now seen) (now next) (now list) entry ⌝ }
-    ensures { λ k. ⌜ Listed (now (list .exit)) k (entry .n) (now (next .exit))
-        × ((cur records : List ℕ) (i : ℕ) → entry .at ≡ getD records i 0 → entry .states ≡ getD cur (entry .at) 0
-        → Levelling (now (arcs .entry)) (now (predecessors .entry)) (now (enter .entry)) cur (now (seen .entry)) (entry .n) (length (now (arcs .entry))) records
-        i (length (now (arcs .entry))) (now (next .entry)) → Levelling (now (arcs .entry)) (now (predecessors .entry)) (now (enter .entry))
-        cur (now (seen .entry)) (entry .n) (length (now (arcs .entry))) records (i + 1) (length (now (arcs .entry))) (now (next .exit))) ⌝ }
+    requires { (length predecessors.now ≡ 64) × CrossAsked arc_to arcs.now index.now enter.now seen.now next.old list.old entry }
+    ensures { Listed list.new result entry.n next.new
+        × ((cur records : List ℕ) (i : ℕ) → entry.at ≡ get_or records i 0 → entry.states ≡ get_or cur entry.at 0
+        → Levelling arcs.now predecessors.now enter.now cur seen.now entry.n (length arcs.now) records
+        i (length arcs.now) next.old → Levelling arcs.now predecessors.now enter.now
+        cur seen.now entry.n (length arcs.now) records (i + 1) (length arcs.now) next.new) }
 {
     let n = entry.n;
     let mut queued = entry.queued;
@@ -85,8 +79,8 @@ fn into(
 
 // The mark at a record, at each of the states.
 fn stamp(work: &mut [u64], at: usize, states: u64, mark: u64)
-    requires { ⌜ (at * 64 + 64 ≤ length (now work)) × (at < maxRecords) ⌝ }
-    ensures { λ _. ⌜ Stamped (now (work .entry)) at states mark 0 (now (work .exit)) ⌝ }
+    requires { (at * 64 + 64 ≤ length work.old) × (at < max_records) }
+    ensures { Stamped work.old at states mark 0 work.new }
 {
     let mut left = states;
     while left != 0 {
@@ -106,10 +100,10 @@ fn commit(
     records: &mut [u32],
     masks: &mut [u64],
 )
-    requires { ⌜ CommitAsked (now work) (now seen) (now next) (now list) (now records) (now masks) ⌝ }
-    ensures { λ _. ⌜ Zero (now (next .exit)) × Frontier (now (records .exit)) (now (masks .exit)) (length (now (list .entry))) (now (next .entry))
-        × ((n : ℕ) → Listed (now (list .entry)) (length (now (list .entry))) n (now (next .entry))
-        → Committed (now (work .entry)) (now (seen .entry)) (now (next .entry)) mark n (now (work .exit)) (now (seen .exit))) ⌝ }
+    requires { CommitAsked work.old seen.old next.old list.now records.old masks.old }
+    ensures { Zero next.new × Frontier records.new masks.new (length list.now) next.old
+        × ((n : ℕ) → Listed list.now (length list.now) n next.old
+        → Committed work.old seen.old next.old mark n work.new seen.new) }
 {
     let mut i = 0;
     while i < list.len() {
@@ -135,9 +129,9 @@ fn backward_by(
     work: &mut [u64],
     seen: &mut [u64],
 ) -> u64
-    requires { ⌜ ByIndex arcTo (now arcs) (now index) × LevelsAsked (now predecessors) (now enter) ends (now work) (now seen) ⌝ }
-    ensures { λ r. ⌜ ((g : Graph) (M : Automaton) (fs : List ℕ) → Setting g M fs (now (predecessors .entry)) (now (enter .entry)) (ends .accepting) (ends .n)
-        (now (arcs .entry)) (length (now (arcs .entry))) → Sought g M (ends .from) (ends .to) (ends .n) (now (work .exit)) (now (seen .exit)) r) ⌝ }
+    requires { ByIndex arc_to arcs.now index.now × LevelsAsked predecessors.now enter.now ends work.old seen.old }
+    ensures { (g : Graph) (M : Automaton) (fs : List ℕ) → Setting g M fs predecessors.now enter.now ends.accepting ends.n
+        arcs.now (length arcs.now) → Sought g M ends.from ends.to ends.n work.new seen.new result }
 {
     let n = ends.n;
     let start = ends.from;
@@ -202,9 +196,9 @@ pub(crate) fn backward(
     work: &mut [u64],
     seen: &mut [u64],
 ) -> u64
-    requires { ⌜ (length (now arcs) ≤ maxArcs) × LevelsAsked (now predecessors) (now enter) ends (now work) (now seen) ⌝ }
-    ensures { λ r. ⌜ ((g : Graph) (M : Automaton) (fs : List ℕ) → Setting g M fs (now (predecessors .entry)) (now (enter .entry)) (ends .accepting) (ends .n)
-        (now (arcs .entry)) (length (now (arcs .entry))) → Sought g M (ends .from) (ends .to) (ends .n) (now (work .exit)) (now (seen .exit)) r) ⌝ }
+    requires { (length arcs.now ≤ max_arcs) × LevelsAsked predecessors.now enter.now ends work.old seen.old }
+    ensures { (g : Graph) (M : Automaton) (fs : List ℕ) → Setting g M fs predecessors.now enter.now ends.accepting ends.n
+        arcs.now (length arcs.now) → Sought g M ends.from ends.to ends.n work.new seen.new result }
 {
     if arcs.len() <= arcs::FEW_ARCS {
         let mut few = [0u16; arcs::FEW_INDEX_WORDS];

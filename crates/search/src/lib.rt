@@ -2,6 +2,8 @@
 // A level is the list of its records, each with a word of its states. The next one comes from the arcs into those records alone, found by an
 // index, and a step of the walk from the arcs out of its record: so the cost goes with the states that are reached and the arcs at them.
 // This file has what a caller sees, and passes the rest on: states.rt sets of states, levels.rt the levels, walk.rt the walk, chain.rt both.
+#![tactic(auto)]
+
 mod chain;
 mod levels;
 mod reach;
@@ -19,6 +21,7 @@ const LETTER_UNIT: usize = arcs::LETTER_UNIT as usize;
 const LETTERS: usize = 64;
 
 // How many records there are, the two that a chain joins, and the states in which it may end.
+#[derive(Clone, Copy)]
 pub struct Ends {
     pub n: usize,
     pub from: usize,
@@ -26,6 +29,7 @@ pub struct Ends {
     pub accepting: u64,
 }
 
+#[derive(Clone, Copy)]
 pub enum Found {
     Steps(usize),
     Nowhere,
@@ -33,6 +37,7 @@ pub enum Found {
 }
 
 // States at a record; how many records there are, and how many of them are on the list of the next level.
+#[derive(Clone, Copy)]
 struct Entry {
     at: usize,
     states: u64,
@@ -41,6 +46,7 @@ struct Entry {
 }
 
 // Of n records the one where a walk begins, and how many steps it has.
+#[derive(Clone, Copy)]
 struct Route {
     n: usize,
     from: usize,
@@ -48,6 +54,7 @@ struct Route {
 }
 
 // A step that is looked for: from a record, one of n, to one of the states that may follow, whose number there is the distance.
+#[derive(Clone, Copy)]
 struct Aim {
     n: usize,
     at: usize,
@@ -56,6 +63,7 @@ struct Aim {
 }
 
 // A step word, and the states that it leads to.
+#[derive(Clone, Copy)]
 struct Choice {
     word: u32,
     states: u64,

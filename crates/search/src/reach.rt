@@ -1,25 +1,19 @@
 // The search forward from one record, to every state that is come to. What the functions give is stated in specs/Reaching.antt.
-use crate::Entry;
-use crate::LETTER_UNIT;
-use crate::LETTERS;
-use crate::RECORD_UNIT;
+ghost use Rattle.std.specs.Prelude.{◌≡◌, List, true, ℕ, length};
+ghost use Rattle.paths.specs.Expressions.{Expr};
+ghost use Rattle.paths.specs.Chains.{Graph};
+ghost use Rattle.paths.specs.Inside.{Inside};
+ghost use Rattle.automaton.specs.Automata.{automaton};
+ghost use Rattle.automaton.specs.Masks.{Masked};
+ghost use Rattle.arcs.specs.Arcs.{arc_from, Spans};
+ghost use Rattle.search.specs.Levels.{Spread};
+ghost use Rattle.search.specs.Frontiers.{Listed};
+ghost use Rattle.search.specs.Reaching.{Expanding, Reached, Fewer, Ended};
+ghost use Rattle.search.specs.Room.{CrossAsked, ReachAsked, EndsAsked};
+
 use crate::levels::add_states;
 use crate::states::spread;
-ghost use mathlib.Core.Path.{_≡_};
-ghost use mathlib.Core.List.{List};
-ghost use mathlib.Core.Bool.{true};
-ghost use Prim.Native.Nat.{ℕ};
-ghost use lib.ListN.{length};
-ghost use Rattle·paths.specs.Expressions.{Expr};
-ghost use Rattle·paths.specs.Chains.{Graph};
-ghost use Rattle·paths.specs.ChainLaws.{Inside};
-ghost use Rattle·automaton.specs.Automata.{automaton};
-ghost use Rattle·automaton.specs.Masks.{Masked};
-ghost use Rattle·arcs.specs.Arcs.{arcFrom, Spans};
-ghost use Rattle·search·specs.specs.Levels.{Spread};
-ghost use Rattle·search·specs.specs.Frontiers.{Listed};
-ghost use Rattle·search·specs.specs.Reaching.{Expanding, Reached, Fewer, Ended};
-ghost use Rattle·search·specs.specs.Room.{CrossAsked, ReachAsked, EndsAsked};
+use crate::{Entry, LETTER_UNIT, LETTERS, RECORD_UNIT};
 
 // The states, not seen yet, to which an arc leads from the entry's record by one of its states, seen and pending now. How many records are queued now?
 fn out_of(
@@ -31,14 +25,14 @@ fn out_of(
     list: &mut [u16],
     entry: Entry,
 ) -> usize
-    requires { ⌜ CrossAsked arcFrom (now arcs) (now index) (now enter) (now seen) (now pending) (now list) entry ⌝ }
-    ensures { λ c. ⌜ Listed (now (list .exit)) c (entry .n) (now (pending .exit))
-        × Fewer (entry .n) (now (seen .entry)) (now (pending .entry)) (now (seen .exit)) (now (pending .exit))
-        × ((fs : List ℕ) (x mask : ℕ) → Spread fs mask 0 (entry .states)
-        → Expanding fs (now (enter .entry)) (now (arcs .entry)) (length (now (arcs .entry))) (entry .n) x (now (seen .entry)) (now (pending .entry))
-        (entry .at) mask (length (now (arcs .entry)))
-        → Expanding fs (now (enter .entry)) (now (arcs .entry)) (length (now (arcs .entry))) (entry .n) x (now (seen .exit)) (now (pending .exit))
-        0 0 0) ⌝ }
+    requires { CrossAsked arc_from arcs.now index.now enter.now seen.old pending.old list.old entry }
+    ensures { Listed list.new result entry.n pending.new
+        × Fewer entry.n seen.old pending.old seen.new pending.new
+        × ((fs : List ℕ) (x mask : ℕ) → Spread fs mask 0 entry.states
+        → Expanding fs enter.now arcs.now (length arcs.now) entry.n x seen.old pending.old
+        entry.at mask (length arcs.now)
+        → Expanding fs enter.now arcs.now (length arcs.now) entry.n x seen.new pending.new
+        0 0 0) }
 {
     let n = entry.n;
     let mut queued = entry.queued;
@@ -70,8 +64,8 @@ fn reach(
     n: usize,
     from: usize,
 ) -> [u64; book::MAX_RECORDS]
-    requires { ⌜ ReachAsked (now arcs) (now follow) (now enter) n from ⌝ }
-    ensures { λ r. ⌜ Reached (now (follow .entry)) (now (enter .entry)) (now (arcs .entry)) (length (now (arcs .entry))) n from r ⌝ }
+    requires { ReachAsked arcs.now follow.now enter.now n from }
+    ensures { Reached follow.now enter.now arcs.now (length arcs.now) n from result }
 {
     let mut index = [0u16; arcs::INDEX_WORDS];
     arcs::index_by_left(arcs, &mut index);
@@ -110,9 +104,9 @@ pub fn reached(
     n: usize,
     from: usize,
 ) -> [u64; book::MAX_RECORDS]
-    requires { ⌜ EndsAsked (now links) (now follow) (now enter) n from ⌝ }
-    ensures { λ r. ⌜ ((g : Graph) (e : Expr) (ps : List ℕ) (f : ℕ) → g .n ≡ n → Inside g → Spans (now (links .entry)) (length (now (links .entry))) g
-        → length ps ≡ 64 → Masked (now (follow .entry)) ps (now (enter .entry)) f (automaton e) → g .inUse from ≡ true → Ended g e from f r) ⌝ }
+    requires { EndsAsked links.now follow.now enter.now n from }
+    ensures { (g : Graph) (e : Expr) (ps : List ℕ) (f : ℕ) → g.n ≡ n → Inside g → Spans links.now (length links.now) g
+        → length ps ≡ 64 → Masked follow.now ps enter.now f (automaton e) → g.in_use from ≡ true → Ended g e from f result }
 {
     let mut arcs = [0u32; arcs::MAX_ARCS];
     let count = arcs::arcs_of(links, enter, &mut arcs);

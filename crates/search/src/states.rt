@@ -1,12 +1,11 @@
 // Sets of states as words, bit q for the state q.
-ghost use mathlib.Core.Path.{_≡_};
-ghost use lib.ListN.{length};
-ghost use Rattle·search·specs.specs.Levels.{Spread};
+ghost use Rattle.std.specs.Prelude.{◌≡◌, length};
+ghost use Rattle.search.specs.Levels.{Spread};
 
 // The rows of the states, joined.
 pub(crate) fn spread(rows: &[u64], states: u64) -> u64
-    requires { ⌜ length (now rows) ≡ 64 ⌝ }
-    ensures { λ r. ⌜ Spread (now (rows .entry)) states 0 r ⌝ }
+    requires { length rows.now ≡ 64 }
+    ensures { Spread rows.now states 0 result }
 {
     let mut joined = 0;
     let mut left = states;

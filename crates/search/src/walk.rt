@@ -1,22 +1,17 @@
 // The walk forward from the start: at each record the smallest step that leads on. What the functions give is stated in specs/Steps.antt.
-use crate::Aim;
-use crate::Choice;
-use crate::LETTER_UNIT;
-use crate::LETTERS;
-use crate::RECORD_UNIT;
-use crate::Route;
+ghost use Rattle.std.specs.Prelude.{◌*◌, ◌≤◌, length};
+ghost use Rattle.book.specs.Causes.{max_records};
+ghost use Rattle.arcs.specs.Arcs.{max_arcs, arc_from};
+ghost use Rattle.search.specs.Steps.{Kept, Chosen, Better, Walked};
+ghost use Rattle.search.specs.Room.{ByIndex, ChooseAsked, WalkAsked};
+
 use crate::states::spread;
-ghost use Prim.Native.Nat.{_*_, _≤_};
-ghost use lib.ListN.{length};
-ghost use Rattle·book.specs.Causes.{maxRecords};
-ghost use Rattle·arcs.specs.Arcs.{maxArcs, arcFrom};
-ghost use Rattle·search·specs.specs.Steps.{Kept, Chosen, Better, Walked};
-ghost use Rattle·search·specs.specs.Room.{ByIndex, ChooseAsked, WalkAsked};
+use crate::{Aim, Choice, LETTER_UNIT, LETTERS, RECORD_UNIT, Route};
 
 // Those of the states whose number at a record below n is the distance: most often all of them, so the others are taken out.
 fn kept(work: &[u64], n: usize, at: usize, states: u64, distance: u64) -> u64
-    requires { ⌜ (n * 64 ≤ length (now work)) × (n ≤ maxRecords) ⌝ }
-    ensures { λ r. ⌜ Kept (now (work .entry)) n at states distance r ⌝ }
+    requires { (n * 64 ≤ length work.now) × (n ≤ max_records) }
+    ensures { Kept work.now n at states distance result }
 {
     if n <= at {
         return 0;
@@ -38,7 +33,7 @@ const NO_STEP: u32 = 65536;
 
 // The choice with the smaller step word; the other counts only with a state.
 fn better(best: Choice, other: Choice) -> Choice
-    ensures { λ r. ⌜ Better (best .word) (best .states) (other .word) (other .states) (r .word) (r .states) ⌝ }
+    ensures { Better best.word best.states other.word other.states result.word result.states }
 {
     if other.states == 0 {
         return best;
@@ -58,9 +53,9 @@ fn choose(
     seen: &[u64],
     aim: Aim,
 ) -> Choice
-    requires { ⌜ ChooseAsked (now arcs) (now index) (now enter) (now work) (now seen) aim ⌝ }
-    ensures { λ r. ⌜ Chosen (now (arcs .entry)) (now (enter .entry)) (now (work .entry)) (now (seen .entry))
-        (aim .n) (aim .at) (aim .follows) (aim .distance) (length (now (arcs .entry))) 0 (r .word) (r .states) ⌝ }
+    requires { ChooseAsked arcs.now index.now enter.now work.now seen.now aim }
+    ensures { Chosen arcs.now enter.now work.now seen.now
+        aim.n aim.at aim.follows aim.distance (length arcs.now) 0 result.word result.states }
 {
     let n = aim.n;
     let distance = aim.distance;
@@ -99,9 +94,9 @@ fn forward_by(
     route: Route,
     out: &mut [u32],
 )
-    requires { ⌜ ByIndex arcFrom (now arcs) (now index) × WalkAsked (now follow) (now enter) (now work) (now seen) route (now out) ⌝ }
-    ensures { λ _. ⌜ Walked (now (follow .entry)) (now (enter .entry)) (now (work .entry)) (now (seen .entry)) (now (arcs .entry))
-        (length (now (arcs .entry))) (route .n) (route .from) (route .steps) (now (out .entry)) (now (out .exit)) ⌝ }
+    requires { ByIndex arc_from arcs.now index.now × WalkAsked follow.now enter.now work.now seen.now route out.old }
+    ensures { Walked follow.now enter.now work.now seen.now arcs.now
+        (length arcs.now) route.n route.from route.steps out.old out.new }
 {
     let n = route.n;
     let steps = route.steps;
@@ -135,9 +130,9 @@ pub(crate) fn forward(
     route: Route,
     out: &mut [u32],
 )
-    requires { ⌜ (length (now arcs) ≤ maxArcs) × WalkAsked (now follow) (now enter) (now work) (now seen) route (now out) ⌝ }
-    ensures { λ _. ⌜ Walked (now (follow .entry)) (now (enter .entry)) (now (work .entry)) (now (seen .entry)) (now (arcs .entry))
-        (length (now (arcs .entry))) (route .n) (route .from) (route .steps) (now (out .entry)) (now (out .exit)) ⌝ }
+    requires { (length arcs.now ≤ max_arcs) × WalkAsked follow.now enter.now work.now seen.now route out.old }
+    ensures { Walked follow.now enter.now work.now seen.now arcs.now
+        (length arcs.now) route.n route.from route.steps out.old out.new }
 {
     if arcs.len() <= arcs::FEW_ARCS {
         let mut few = [0u16; arcs::FEW_INDEX_WORDS];

@@ -1,26 +1,19 @@
 // One frame of the program: what it says, what it does to the session, and which bytes it prints; and a run over a whole input. turns.rt has what each kind of
 // frame does. What is right is defined in specs/Program.antt.
+#![tactic(auto)]
+
 mod turns;
 
-use crate::turns::ask_chain;
-use crate::turns::ask_pairs;
-use crate::turns::ask_total;
-use crate::turns::edit;
-use crate::turns::open;
-use crate::turns::refuse;
-ghost use mathlib.Core.Path.{_≡_};
-ghost use mathlib.Core.List.{List};
-ghost use Prim.Native.Nat.{ℕ, _≤_, _<_};
-ghost use lib.ListN.{length, getD};
-ghost use Rattle·session·specs.specs.Program.{decode as Program·decode, number16 as Program·number16, following as Program·following, wholeFront};
-ghost use Rattle·session·specs.specs.Program.{shapeOf, fits, called, unopened as Program·unopened};
-ghost use Rattle·session·specs.specs.Says.{says};
-ghost use Rattle·session·specs.specs.Turns.{StateOf, room, Framing};
-ghost use Rattle·session·specs.specs.Runs.{OneTurn, RunsOn};
-ghost use Rattle·register.specs.History.{kindCall};
-use register::Call;
-use register::Entry;
-use register::Register;
+ghost use Rattle.std.specs.Prelude.{◌≡◌, List, ℕ, ◌≤◌, ◌<◌, length, get_or};
+ghost use Rattle.session.specs.Program.{decode as Program·decode, number16 as Program·number16, following as Program·following, whole_front};
+ghost use Rattle.session.specs.Program.{shape_of, fits, called, unopened as Program·unopened};
+ghost use Rattle.session.specs.Says.{says};
+ghost use Rattle.session.specs.Turns.{StateOf, room, Framing};
+ghost use Rattle.session.specs.Runs.{OneTurn, RunsOn};
+ghost use Rattle.register.specs.History.{kind_call};
+
+use crate::turns::{ask_chain, ask_pairs, ask_total, edit, open, refuse};
+use register::{Call, Entry, Register};
 
 // The kinds of frames; those of calls are a history's.
 pub const OPEN: u16 = 1;
@@ -68,18 +61,21 @@ pub const FRAME_BYTES: usize = MAX_FRAME + 2;
 pub const PRINTED_BYTES: usize = MAX_LINE * (WORDS + 3);
 
 // Whether a register is opened, and the register.
+#[derive(Clone, Copy)]
 pub struct State {
     opened: bool,
     register: Register,
 }
 
 // What a frame hands back: the state after it, and how many bytes it printed.
+#[derive(Clone, Copy)]
 pub struct Framed {
     pub state: State,
     pub written: usize,
 }
 
 // How far a run came: the state then, how many bytes of input it read and of output it printed, and whether there is more to do.
+#[derive(Clone, Copy)]
 pub struct Ran {
     pub state: State,
     pub read: usize,
@@ -88,6 +84,7 @@ pub struct Ran {
 }
 
 // What the body of a kind holds; `Ends` are those of a chain question, with its expression after them.
+#[derive(Clone, Copy)]
 pub enum Shape {
     Empty,
     Record,
@@ -101,6 +98,7 @@ pub enum Shape {
 }
 
 // A frame's request, or what is wrong with the frame. The text of a question stays in the body.
+#[derive(Clone, Copy)]
 pub enum Decoded {
     Open(u16),
     Edit(Call),
@@ -114,14 +112,14 @@ pub enum Decoded {
 
 // The byte at place p, or 0 past the end.
 fn byte_at(s: &[u8], p: usize) -> u16
-    ensures { λ r. ⌜ (r ≡ getD (now (s .entry)) p 0) × (r < 256) ⌝ }
+    ensures { (result ≡ get_or s.now p 0) × (result < 256) }
 {
     if p < s.len() { s[p] as u16 } else { 0 }
 }
 
 // The two-byte number at place p.
 pub fn number16(s: &[u8], p: usize) -> u16
-    ensures { λ r. ⌜ r ≡ Program·number16 (now (s .entry)) p ⌝ }
+    ensures { result ≡ Program·number16 s.now p }
 {
     if s.len() <= p {
         return 0;
@@ -131,7 +129,7 @@ pub fn number16(s: &[u8], p: usize) -> u16
 
 // The shape of the body of a kind.
 pub fn shape_of(kind: u16) -> Shape
-    ensures { λ r. ⌜ r ≡ shapeOf kind ⌝ }
+    ensures { result ≡ shape_of kind }
 {
     match kind {
         OPEN => Shape::Size,
@@ -151,7 +149,7 @@ pub fn shape_of(kind: u16) -> Shape
 
 // Whether a body of a shape may have n bytes.
 fn fits(shape: Shape, n: usize) -> bool
-    ensures { λ r. ⌜ r ≡ fits shape n ⌝ }
+    ensures { result ≡ fits shape n }
 {
     match shape {
         Shape::Empty => n == 0,
@@ -167,7 +165,7 @@ fn fits(shape: Shape, n: usize) -> bool
 
 // The call of a kind with its arguments.
 fn called(kind: u16, from: u16, label: u8, to: u16) -> Decoded
-    ensures { λ r. ⌜ ((s : List ℕ) → says r s ≡ called (kindCall kind from label to)) ⌝ }
+    ensures { (s : List ℕ) → says result s ≡ called (kind_call kind from label to) }
 {
     let entry = register::entry_of(kind as u64, from, label, to);
     match entry {
@@ -178,7 +176,7 @@ fn called(kind: u16, from: u16, label: u8, to: u16) -> Decoded
 
 // What a frame says: its body is read by the shape of its kind, if it fits.
 pub fn decode(kind: u16, body: &[u8]) -> Decoded
-    ensures { λ r. ⌜ says r (now (body .entry)) ≡ Program·decode kind (now (body .entry)) ⌝ }
+    ensures { says result body.now ≡ Program·decode kind body.now }
 {
     let shape = shape_of(kind);
     let fit = fits(shape, body.len());
@@ -205,7 +203,7 @@ pub fn decode(kind: u16, body: &[u8]) -> Decoded
 
 // The state at the start of a run.
 pub fn unopened() -> State
-    ensures { λ r. ⌜ StateOf r Program·unopened ⌝ }
+    ensures { StateOf result Program·unopened }
 {
     let made = engine::open(1);
     let register = made.register;
@@ -224,8 +222,8 @@ pub fn frame(
     list: &mut [u32],
     out: &mut [u8],
 ) -> Framed
-    ensures { λ r. ⌜ Framing state (Program·decode kind (now (body .entry))) (length (now (work .entry)))
-        (now (list .entry)) (now (list .exit)) (now (out .entry)) (now (out .exit)) r ⌝ }
+    ensures { Framing state (Program·decode kind body.now) (length work.old)
+        list.old list.new out.old out.new result }
 {
     if out.len() / MAX_LINE < list.len() + 3 {
         return Framed { state, written: 0 };
@@ -244,7 +242,7 @@ pub fn frame(
 
 // How many bytes follow the length at the front of the input; 0 where it has no two bytes, or a length that no frame may have.
 pub fn following(input: &[u8]) -> usize
-    ensures { λ r. ⌜ r ≡ Program·following (now (input .entry)) ⌝ }
+    ensures { result ≡ Program·following input.now }
 {
     if input.len() < 2 {
         return 0;
@@ -261,7 +259,7 @@ pub fn following(input: &[u8]) -> usize
 
 // How many bytes the whole frame at the front of the input is, or 0 where none stands there.
 fn front(input: &[u8]) -> usize
-    ensures { λ r. ⌜ r ≡ wholeFront (now (input .entry)) ⌝ }
+    ensures { result ≡ whole_front input.now }
 {
     let n = following(input);
     if n == 0 {
@@ -275,9 +273,9 @@ fn front(input: &[u8]) -> usize
 
 // Where no whole frame stands the run ends: nothing is printed at the end of the input, else that the frame is broken.
 fn halt(state: State, input: &[u8], out: &mut [u8]) -> Ran
-    requires { ⌜ (wholeFront (now input) ≡ 0) × (29 ≤ length (now out)) ⌝ }
-    ensures { λ r. ⌜ ((work : ℕ) (l : List ℕ) → room (length l) ≤ length (now (out .entry))
-        → OneTurn state (now (input .entry)) work l l (now (out .entry)) (now (out .exit)) r) ⌝ }
+    requires { (whole_front input.now ≡ 0) × (29 ≤ length out.old) }
+    ensures { (work : ℕ) (l : List ℕ) → room (length l) ≤ length out.old
+        → OneTurn state input.now work l l out.old out.new result }
 {
     if input.len() == 0 {
         return Ran {
@@ -298,8 +296,8 @@ fn halt(state: State, input: &[u8], out: &mut [u8]) -> Ran
 
 // One turn of a run: the frame at the front of the input, or the run's end. With too little room for what a frame may print, nothing.
 pub fn step(state: State, input: &[u8], work: &mut [u64], list: &mut [u32], out: &mut [u8]) -> Ran
-    ensures { λ r. ⌜ OneTurn state (now (input .entry)) (length (now (work .entry)))
-        (now (list .entry)) (now (list .exit)) (now (out .entry)) (now (out .exit)) r ⌝ }
+    ensures { OneTurn state input.now (length work.old)
+        list.old list.new out.old out.new result }
 {
     if out.len() / MAX_LINE < list.len() + 3 {
         return Ran {
@@ -328,8 +326,8 @@ pub fn step(state: State, input: &[u8], work: &mut [u64], list: &mut [u32], out:
 
 // A run over the whole input, as far as there is room for what it prints.
 pub fn run(state: State, input: &[u8], work: &mut [u64], list: &mut [u32], out: &mut [u8]) -> Ran
-    ensures { λ r. ⌜ RunsOn (length (now (work .entry))) state (now (input .entry))
-        (now (list .entry)) (now (list .exit)) (now (out .entry)) (now (out .exit)) r ⌝ }
+    ensures { RunsOn (length work.old) state input.now
+        list.old list.new out.old out.new result }
 {
     let mut state = state;
     let mut read = 0;

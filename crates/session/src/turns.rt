@@ -1,22 +1,18 @@
 // What each kind of frame does to the session and prints: a refusal, an open, an edit, and the three questions.
-ghost use mathlib.Core.Path.{_≡_};
-ghost use mathlib.Core.List.{List};
-ghost use Prim.Native.Nat.{ℕ, _≤_};
-ghost use lib.ListN.{length, take};
-ghost use Rattle·answers.specs.Answers.{counted};
-ghost use Rattle·answers.specs.Written.{Wrote};
-ghost use Rattle·register.specs.Calls.{callOf};
-ghost use Rattle·chains.specs.Replies.{outcomeOf, chainCounted};
-ghost use Rattle·report.specs.Report.{refusedText, outcomeText};
-ghost use Rattle·session·specs.specs.Program.{opens, call as Program·call, pairs, chain, totalling, asks};
-ghost use Rattle·session·specs.specs.Turns.{room, Turns};
-ghost use Rattle·session·specs.specs.Listing.{listing, AnswersPairs, totalSaid};
-use crate::Framed;
-use crate::State;
+ghost use Rattle.std.specs.Prelude.{◌≡◌, List, ℕ, ◌≤◌, length, take};
+ghost use Rattle.answers.specs.Answers.{counted};
+ghost use Rattle.answers.specs.Written.{Wrote};
+ghost use Rattle.register.specs.Calls.{call_of};
+ghost use Rattle.chains.specs.Replies.{outcome_of, chain_counted};
+ghost use Rattle.report.specs.Report.{refused_text, outcome_text};
+ghost use Rattle.session.specs.Program.{opens, call as Program·call, pairs, chain, totalling, asks};
+ghost use Rattle.session.specs.Turns.{room, Turns};
+ghost use Rattle.session.specs.Listing.{listing, AnswersPairs, total_said};
+
+use crate::{Framed, State};
 use answers::Counted;
 use chains::ChainAnswer;
-use register::Call;
-use register::Register;
+use register::{Call, Register};
 
 // The most records of the program.
 const MOST_RECORDS: u16 = 64;
@@ -26,16 +22,16 @@ const ROW_RECORDS: usize = 32;
 
 // A refusal, which leaves the state as it was.
 pub(crate) fn refuse(state: State, number: u32, out: &mut [u8]) -> Framed
-    requires { ⌜ 29 ≤ length (now out) ⌝ }
-    ensures { λ r. ⌜ (r .state ≡ state) × Wrote 0 (refusedText number) (now (out .entry)) (now (out .exit)) (r .written) ⌝ }
+    requires { 29 ≤ length out.old }
+    ensures { (result.state ≡ state) × Wrote 0 (refused_text number) out.old out.new result.written }
 {
     let written = report::put_refused(number, out, 0);
     Framed { state, written }
 }
 
 pub(crate) fn open(state: State, n: u16, out: &mut [u8]) -> Framed
-    requires { ⌜ 29 ≤ length (now out) ⌝ }
-    ensures { λ r. ⌜ ((work : ℕ) (l : List ℕ) → Turns state (opens n) work l l (now (out .entry)) (now (out .exit)) r) ⌝ }
+    requires { 29 ≤ length out.old }
+    ensures { (work : ℕ) (l : List ℕ) → Turns state (opens n) work l l out.old out.new result }
 {
     if n < 1 {
         return refuse(state, book::BAD_SIZE, out);
@@ -56,8 +52,8 @@ pub(crate) fn open(state: State, n: u16, out: &mut [u8]) -> Framed
 }
 
 pub(crate) fn edit(state: State, call: Call, out: &mut [u8]) -> Framed
-    requires { ⌜ 29 ≤ length (now out) ⌝ }
-    ensures { λ r. ⌜ ((work : ℕ) (l : List ℕ) → Turns state (asks (Program·call (callOf call))) work l l (now (out .entry)) (now (out .exit)) r) ⌝ }
+    requires { 29 ≤ length out.old }
+    ensures { (work : ℕ) (l : List ℕ) → Turns state (asks (Program·call (call_of call))) work l l out.old out.new result }
 {
     if !state.opened {
         return refuse(state, book::NOT_OPEN, out);
@@ -76,8 +72,8 @@ pub(crate) fn edit(state: State, call: Call, out: &mut [u8]) -> Framed
 }
 
 fn put_reply(answer: ChainAnswer, list: &[u32], out: &mut [u8]) -> usize
-    requires { ⌜ (counted (chainCounted answer) ≤ length (now list)) × (room (length (now list)) ≤ length (now out)) ⌝ }
-    ensures { λ r. ⌜ Wrote 0 (outcomeText (outcomeOf answer (now (list .entry)))) (now (out .entry)) (now (out .exit)) r ⌝ }
+    requires { (counted (chain_counted answer) ≤ length list.now) × (room (length list.now) ≤ length out.old) }
+    ensures { Wrote 0 (outcome_text (outcome_of answer list.now)) out.old out.new result }
 {
     match answer {
         ChainAnswer::Chain(k) => report::put_chain(&list[..k], out, 0),
@@ -95,9 +91,9 @@ pub(crate) fn ask_chain(
     list: &mut [u32],
     out: &mut [u8],
 ) -> Framed
-    requires { ⌜ room (length (now list)) ≤ length (now out) ⌝ }
-    ensures { λ r. ⌜ Turns state (asks (chain x y (now (text .entry)))) (length (now (work .entry)))
-        (now (list .entry)) (now (list .exit)) (now (out .entry)) (now (out .exit)) r ⌝ }
+    requires { room (length list.old) ≤ length out.old }
+    ensures { Turns state (asks (chain x y text.now)) (length work.old)
+        list.old list.new out.old out.new result }
 {
     if !state.opened {
         return refuse(state, book::NOT_OPEN, out);
@@ -109,7 +105,7 @@ pub(crate) fn ask_chain(
 
 // How many words of a list are pairs, if there are so many pairs in all.
 fn pairs_shown(total: usize, list: &[u32]) -> usize
-    ensures { λ r. ⌜ (r ≤ length (now (list .entry))) × (take r (now (list .entry)) ≡ take total (now (list .entry))) ⌝ }
+    ensures { (result ≤ length list.now) × (take result list.now ≡ take total list.now) }
 {
     if list.len() < total {
         return list.len();
@@ -119,8 +115,8 @@ fn pairs_shown(total: usize, list: &[u32]) -> usize
 
 // The number of all pairs, and those in the list.
 fn put_listing(answer: Counted, list: &[u32], out: &mut [u8]) -> usize
-    requires { ⌜ room (length (now list)) ≤ length (now out) ⌝ }
-    ensures { λ r. ⌜ Wrote 0 (outcomeText (listing answer (now (list .entry)))) (now (out .entry)) (now (out .exit)) r ⌝ }
+    requires { room (length list.now) ≤ length out.old }
+    ensures { Wrote 0 (outcome_text (listing answer list.now)) out.old out.new result }
 {
     match answer {
         Counted::Count(total) => {
@@ -133,7 +129,7 @@ fn put_listing(answer: Counted, list: &[u32], out: &mut [u8]) -> usize
 
 // The answer to a pair question of an opened book: by rows of bits for up to 32 records, by trees above.
 fn answer_pairs(register: Register, text: &[u8], work: &mut [u64], list: &mut [u32]) -> Counted
-    ensures { λ a. ⌜ AnswersPairs register (now (text .entry)) (length (now (work .entry))) (now (list .entry)) (now (list .exit)) a ⌝ }
+    ensures { AnswersPairs register text.now (length work.old) list.old list.new result }
 {
     if engine::size(register) <= ROW_RECORDS {
         return engine::pairs_by_rows(register, text, work, list);
@@ -148,9 +144,9 @@ pub(crate) fn ask_pairs(
     list: &mut [u32],
     out: &mut [u8],
 ) -> Framed
-    requires { ⌜ room (length (now list)) ≤ length (now out) ⌝ }
-    ensures { λ r. ⌜ Turns state (asks (pairs (now (text .entry)))) (length (now (work .entry)))
-        (now (list .entry)) (now (list .exit)) (now (out .entry)) (now (out .exit)) r ⌝ }
+    requires { room (length list.old) ≤ length out.old }
+    ensures { Turns state (asks (pairs text.now)) (length work.old)
+        list.old list.new out.old out.new result }
 {
     if !state.opened {
         return refuse(state, book::NOT_OPEN, out);
@@ -161,8 +157,8 @@ pub(crate) fn ask_pairs(
 }
 
 fn put_total(answer: Counted, out: &mut [u8]) -> usize
-    requires { ⌜ 29 ≤ length (now out) ⌝ }
-    ensures { λ r. ⌜ Wrote 0 (totalSaid answer) (now (out .entry)) (now (out .exit)) r ⌝ }
+    requires { 29 ≤ length out.old }
+    ensures { Wrote 0 (total_said answer) out.old out.new result }
 {
     match answer {
         Counted::Count(t) => report::put_total(t as u64, out, 0),
@@ -171,8 +167,8 @@ fn put_total(answer: Counted, out: &mut [u8]) -> usize
 }
 
 pub(crate) fn ask_total(state: State, label: u8, out: &mut [u8]) -> Framed
-    requires { ⌜ 29 ≤ length (now out) ⌝ }
-    ensures { λ r. ⌜ ((work : ℕ) (l : List ℕ) → Turns state (asks (totalling label)) work l l (now (out .entry)) (now (out .exit)) r) ⌝ }
+    requires { 29 ≤ length out.old }
+    ensures { (work : ℕ) (l : List ℕ) → Turns state (asks (totalling label)) work l l out.old out.new result }
 {
     if !state.opened {
         return refuse(state, book::NOT_OPEN, out);

@@ -1,5 +1,3 @@
 pub mod Support
 pub mod Inner
-pub mod SupportLaws
-pub mod SupportCases
-pub mod MadeLaws
+pub mod SupportWork

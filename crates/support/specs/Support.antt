@@ -10,38 +10,33 @@
 --   reaches c anchors x  whether the set of pairs c joins x to some anchor, computed
 --   falls, fallen        whether a record falls, computed; that list, computed
 --   orderly m l          whether the numbers of l ascend, each once, the first at least m, computed
---   fallenOf b v core anchors
+--   fallen_of b v core anchors
 --                        the answer asked of the book b, if the text is an expression
---   supportCauses, supportOutcome b core v anchors work room
+--   support_causes, support_outcome b core v anchors work room
 --                        the causes against the question, in their order, and its outcome with a text of the verdict v, so many words of work and room for so
 --                        many in the list: the records that fall, all of them. The work is that of a pair question and of a chain question, 32 × D + 64 × n
 --   Supports r core text anchors work before after a
 --                        asked of the register r, with so many words of work and a list that held `before`
 -- Assumes nothing: these are definitions.
-use mathlib.Core.Path.{_≡_}
-use mathlib.Core.List.{List, [], _∷_, _++_}
-use mathlib.Core.Bool.{Bool, true, false, not, _||_, _&&_}
-use Prim.Native.Nat.{ℕ, zero, suc, _+_}
-use lib.ListN.{length}
-use lib.Dec.{leb, ltb, eqb}
-use Rattle·book.specs.Basics.{pick, In, Rises}
-use Rattle·book.specs.Causes.{Cause, no-record, unordered-anchors, short-work, short-list, firstNumber}
-use Rattle·book.specs.Book.{Book}
-use Rattle·k2.specs.PairSets.{Cells}
-use Rattle·paths.specs.Expressions.{Expr}
-use Rattle·paths.specs.Grammar.{Verdict, accepted, long, outside, large, verdictCause}
-use Rattle·paths.specs.Verdicts.{verdict}
-use Rattle·paths.specs.Chains.{Graph, asked, Has}
-use Rattle·paths.specs.Relations.{cells}
-use Rattle·answers.specs.declared.Counted.{Counted}
-use Rattle·paths.specs.Questions.{Outcome, paired, unless, pairsWork, chainWork}
-use Rattle·register.specs.Parting.{touches}
-use Rattle·register.specs.declared.Register.{Register}
-use Rattle·query.specs.Asking.{Asks}
+use Rattle.std.specs.Prelude.{◌≡◌, List, [], ◌∷◌, ◌++◌, Bool, true, false, not, ◌||◌, ◌&&◌, ℕ, zero, suc, ◌+◌, length, leb, ltb, eqb}
+use Rattle.book.specs.Basics.{pick, In, Rises}
+use Rattle.book.specs.Causes.{Cause, no_record, unordered_anchors, short_work, short_list, first_number}
+use Rattle.book.specs.Book.{Book}
+use Rattle.k2.specs.PairSets.{Cells}
+use Rattle.paths.specs.Expressions.{Expr}
+use Rattle.paths.specs.Grammar.{Verdict, accepted, long, outside, large, verdict_cause}
+use Rattle.paths.specs.Verdicts.{verdict}
+use Rattle.paths.specs.Chains.{Graph, asked, Has}
+use Rattle.paths.specs.Relations.{cells}
+use Rattle.answers.specs.declared.Counted.{Counted}
+use Rattle.paths.specs.Questions.{Outcome, paired, unless, pairs_work, chain_work}
+use Rattle.register.specs.Parting.{touches}
+use Rattle.register.specs.declared.Register.{Register}
+use Rattle.query.specs.Asking.{Asks}
 
 -- ---- what falls
 unfoldable pub without : ℕ → Graph → Graph
-without core g = record { n = g .n; inUse = g .inUse; present = λ k. g .present k && not (touches core k) }
+without core g = record { n = g.n; in_use = g.in_use; present = λ k. g.present k && not (touches core k) }
 
 abbrev pub Held : Graph → Expr → List ℕ → ℕ → Type 0
 Held g e anchors x = (a : ℕ) × In a anchors × Has g e x a
@@ -71,31 +66,31 @@ unfoldable pub falls : Graph → Expr → ℕ → List ℕ → ℕ → Bool
 falls g e core anchors x = not (eqb x core) && (reaches (cells g e) anchors x && not (reaches (cells (without core g) e) anchors x))
 
 unfoldable pub fallen : Graph → Expr → ℕ → List ℕ → List ℕ
-fallen g e core anchors = chosen (falls g e core anchors) (g .n)
+fallen g e core anchors = chosen (falls g e core anchors) g.n
 
 -- ---- the question
 unfoldable pub orderly : ℕ → List ℕ → Bool
 orderly m [] = true
 orderly m (x ∷ l) = leb m x && orderly (suc x) l
 
-unfoldable pub fallenOf : Book → Verdict → ℕ → List ℕ → List ℕ
-fallenOf b (accepted e) core anchors = fallen (asked b) e core anchors
-fallenOf b long core anchors = []
-fallenOf b outside core anchors = []
-fallenOf b large core anchors = []
+unfoldable pub fallen_of : Book → Verdict → ℕ → List ℕ → List ℕ
+fallen_of b (accepted e) core anchors = fallen (asked b) e core anchors
+fallen_of b long core anchors = []
+fallen_of b outside core anchors = []
+fallen_of b large core anchors = []
 
-unfoldable pub supportCauses : Book → ℕ → Verdict → List ℕ → ℕ → ℕ → List (Cause × Bool)
-supportCauses b core v anchors work room =
-    (no-record, leb (b .n) core || some (leb (b .n)) anchors) ∷
-    (unordered-anchors, not (orderly 0 anchors)) ∷
-    (verdictCause v ++ (
-    (short-work, ltb work (pairsWork (b .n) + chainWork (b .n))) ∷
-    (short-list, ltb room (length (fallenOf b v core anchors))) ∷ []))
+unfoldable pub support_causes : Book → ℕ → Verdict → List ℕ → ℕ → ℕ → List (Cause × Bool)
+support_causes b core v anchors work room =
+    (no_record, leb b.n core || some (leb b.n) anchors) ∷
+    (unordered_anchors, not (orderly 0 anchors)) ∷
+    (verdict_cause v ++ (
+    (short_work, ltb work (pairs_work b.n + chain_work b.n)) ∷
+    (short_list, ltb room (length (fallen_of b v core anchors))) ∷ []))
 
-unfoldable pub supportOutcome : Book → ℕ → Verdict → List ℕ → ℕ → ℕ → Outcome
-supportOutcome b core v anchors work room =
-    unless (firstNumber (supportCauses b core v anchors work room)) (paired (length (fallenOf b v core anchors)) (fallenOf b v core anchors))
+unfoldable pub support_outcome : Book → ℕ → Verdict → List ℕ → ℕ → ℕ → Outcome
+support_outcome b core v anchors work room =
+    unless (first_number (support_causes b core v anchors work room)) (paired (length (fallen_of b v core anchors)) (fallen_of b v core anchors))
 
 -- ---- the promise
 abbrev pub Supports : Register → ℕ → List ℕ → List ℕ → ℕ → List ℕ → List ℕ → Counted → Type 0
-Supports r core text anchors work before = Asks (length before) r (λ b. supportOutcome b core (verdict text) anchors work (length before)) before
+Supports r core text anchors work before = Asks (length before) r (λ b. support_outcome b core (verdict text) anchors work (length before)) before

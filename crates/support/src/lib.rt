@@ -1,17 +1,16 @@
 // Sole support: which records would lose every chain to the anchors if one core did. A product above the engine: the relation behind its questions is asked
 // of the register's marks and links, and of what is left of them without the core's links; its proofs rest on what is promised there.
-ghost use mathlib.Core.Path.{_≡_};
-ghost use mathlib.Core.Bool.{false, not, _&&_};
-ghost use Prim.Native.Nat.{ℕ, _<_, _≤_, min};
-ghost use lib.Dec.{leb};
-ghost use lib.ListN.{length, take, getD};
-ghost use Rattle·book.specs.Causes.{maxRecords, maxLinks};
-ghost use Rattle·paths.specs.Questions.{chainWork};
-ghost use Rattle·paths.specs.Verdicts.{verdict};
-ghost use Rattle·answers.specs.Answers.{Whole};
-ghost use Rattle·rowpairs.specs.Evaluation.{Known, KnownOf, Held, relationIn};
-ghost use Rattle·support·specs.specs.Support.{some, chosen, reaches, orderly, Supports};
-ghost use Rattle·support·specs.specs.Inner.{lost as Lost, Marked, Compares, Comparing};
+#![tactic(auto)]
+
+ghost use Rattle.std.specs.Prelude.{◌≡◌, false, not, ◌&&◌, ℕ, ◌<◌, ◌≤◌, min, leb, length, take, get_or};
+ghost use Rattle.book.specs.Causes.{max_records, max_links};
+ghost use Rattle.paths.specs.Questions.{chain_work};
+ghost use Rattle.paths.specs.Verdicts.{verdict};
+ghost use Rattle.answers.specs.Answers.{Whole};
+ghost use Rattle.rowpairs.specs.Evaluation.{Known, KnownOf, Held, relation_in};
+ghost use Rattle.support.specs.Support.{some, chosen, reaches, orderly, Supports};
+ghost use Rattle.support.specs.Inner.{lost as Lost, Marked, Compares, Comparing};
+
 use answers::Counted;
 use register::Register;
 
@@ -19,12 +18,14 @@ use register::Register;
 const RECORD_WORDS: usize = 64;
 
 // Of each record, whether it has a chain to some anchor; the number of a refusal, or 0.
+#[derive(Clone, Copy)]
 struct Marks {
     records: [bool; book::MAX_RECORDS],
     number: u32,
 }
 
 // The records that fall, ascending, as the first count of words.
+#[derive(Clone, Copy)]
 struct FallenList {
     words: [u32; book::MAX_RECORDS],
     count: usize,
@@ -32,7 +33,7 @@ struct FallenList {
 
 // Whether some record of a list is not below n.
 fn beyond(records: &[u16], n: usize) -> bool
-    ensures { λ r. ⌜ r ≡ some (leb n) (now (records .entry)) ⌝ }
+    ensures { result ≡ some (leb n) records.now }
 {
     let mut i = 0;
     while i < records.len() {
@@ -46,7 +47,7 @@ fn beyond(records: &[u16], n: usize) -> bool
 
 // Whether the records of a list ascend, each once.
 fn ascending(records: &[u16]) -> bool
-    ensures { λ r. ⌜ r ≡ orderly 0 (now (records .entry)) ⌝ }
+    ensures { result ≡ orderly 0 records.now }
 {
     let mut least: usize = 0;
     let mut i = 0;
@@ -68,9 +69,9 @@ fn joined_records(
     n: usize,
     anchors: &[u16],
 ) -> [bool; book::MAX_RECORDS]
-    requires { ⌜ Held n (length (now cells)) × (n ≤ length (now masks)) × (some (leb n) (now anchors) ≡ false) ⌝ }
-    ensures { λ r. ⌜ (length r ≡ maxRecords)
-        × ((x : ℕ) → x < n → getD r x false ≡ reaches (relationIn (now (cells .entry)) (now (masks .entry)) n) (now (anchors .entry)) x) ⌝ }
+    requires { Held n (length cells.now) × (n ≤ length masks.now) × (some (leb n) anchors.now ≡ false) }
+    ensures { (length result ≡ max_records)
+        × ((x : ℕ) → x < n → get_or result x false ≡ reaches (relation_in cells.now masks.now n) anchors.now x) }
 {
     let row = rowpairs::record_row(anchors);
     let mut records: [bool; book::MAX_RECORDS] = [false; book::MAX_RECORDS];
@@ -90,9 +91,9 @@ fn mark_records(
     anchors: &[u16],
     work: &mut [u64],
 ) -> Marks
-    requires { ⌜ (length (now marks) ≤ maxRecords) × (some (leb (length (now marks))) (now anchors) ≡ false) ⌝ }
-    ensures { λ r. ⌜ Marked (λ b. Known b (length (now (marks .entry))) (now (links .entry)) (now (marks .entry)))
-        (verdict (now (text .entry))) (now (anchors .entry)) (length (now (work .entry))) (length (now (marks .entry))) r ⌝ }
+    requires { (length marks.now ≤ max_records) × (some (leb (length marks.now)) anchors.now ≡ false) }
+    ensures { Marked (λ b. Known b (length marks.now) links.now marks.now)
+        (verdict text.now) anchors.now (length work.old) (length marks.now) result }
 {
     let related = rowpairs::relate_over(marks, links, text, work);
     let answer = related.answer;
@@ -111,7 +112,7 @@ fn mark_records(
 
 // Whether a record is lost that was marked, or not, and is marked, or not: never the core.
 fn loses(had: bool, has: bool, core: bool) -> bool
-    ensures { λ r. ⌜ r ≡ (not core && (had && not has)) ⌝ }
+    ensures { result ≡ (not core && (had && not has)) }
 {
     if core {
         return false;
@@ -129,8 +130,8 @@ fn fallen(
     core: usize,
     n: usize,
 ) -> FallenList
-    requires { ⌜ (n ≤ maxRecords) × (length before ≡ maxRecords) × (length after ≡ maxRecords) ⌝ }
-    ensures { λ r. ⌜ (r .count ≤ maxRecords) × (length (r .words) ≡ maxRecords) × (take (r .count) (r .words) ≡ chosen (Lost before after core) n) ⌝ }
+    requires { (n ≤ max_records) × (length before ≡ max_records) × (length after ≡ max_records) }
+    ensures { (result.count ≤ max_records) × (length result.words ≡ max_records) × (take result.count result.words ≡ chosen (Lost before after core) n) }
 {
     let mut words: [u32; book::MAX_RECORDS] = [0; book::MAX_RECORDS];
     let mut count = 0;
@@ -155,8 +156,8 @@ fn list_fallen(
     n: usize,
     list: &mut [u32],
 ) -> Counted
-    requires { ⌜ (n ≤ maxRecords) × (length before ≡ maxRecords) × (length after ≡ maxRecords) ⌝ }
-    ensures { λ a. ⌜ Whole (chosen (Lost before after core) n) (now (list .entry)) (now (list .exit)) a ⌝ }
+    requires { (n ≤ max_records) × (length before ≡ max_records) × (length after ≡ max_records) }
+    ensures { Whole (chosen (Lost before after core) n) list.old list.new result }
 {
     let found = fallen(before, after, core, n);
     let count = found.count;
@@ -178,10 +179,10 @@ fn compared(
     work: &mut [u64],
     list: &mut [u32],
 ) -> Counted
-    requires { ⌜ Comparing (now marks) (now links) core (now anchors) ⌝ }
-    ensures { λ a. ⌜ Compares (λ b. Known b (length (now (marks .entry))) (now (links .entry)) (now (marks .entry)))
-        core (length (now (marks .entry))) (verdict (now (text .entry))) (now (anchors .entry))
-        (length (now (work .entry))) (now (list .entry)) (now (list .exit)) a ⌝ }
+    requires { Comparing marks.now links.now core anchors.now }
+    ensures { Compares (λ b. Known b (length marks.now) links.now marks.now)
+        core (length marks.now) (verdict text.now) anchors.now
+        (length work.old) list.old list.new result }
 {
     let before = mark_records(marks, links, text, anchors, work);
     if before.number != 0 {
@@ -200,8 +201,8 @@ fn compared(
 
 // Where the part of work begins that is lent on: past 64 words for each record, or at its end if there are not so many.
 fn spared(len: usize, n: usize) -> usize
-    requires { ⌜ n ≤ maxRecords ⌝ }
-    ensures { λ r. ⌜ r ≡ min len (chainWork n) ⌝ }
+    requires { n ≤ max_records }
+    ensures { result ≡ min len (chain_work n) }
 {
     if len < RECORD_WORDS * n {
         return len;
@@ -220,9 +221,9 @@ fn supported(
     work: &mut [u64],
     list: &mut [u32],
 ) -> Counted
-    requires { ⌜ (length (now marks) ≤ maxRecords) × (length (now links) ≤ maxLinks) ⌝ }
-    ensures { λ a. ⌜ ((r : Register) → KnownOf r (length (now (marks .entry))) (now (links .entry)) (now (marks .entry))
-        → Supports r core (now (text .entry)) (now (anchors .entry)) (length (now (work .entry))) (now (list .entry)) (now (list .exit)) a) ⌝ }
+    requires { (length marks.now ≤ max_records) × (length links.now ≤ max_links) }
+    ensures { (r : Register) → KnownOf r (length marks.now) links.now marks.now
+        → Supports r core text.now anchors.now (length work.old) list.old list.new result }
 {
     let n = marks.len();
     if n <= core as usize {
@@ -247,7 +248,7 @@ pub fn sole_support(
     work: &mut [u64],
     list: &mut [u32],
 ) -> Counted
-    ensures { λ a. ⌜ Supports register core (now (text .entry)) (now (anchors .entry)) (length (now (work .entry))) (now (list .entry)) (now (list .exit)) a ⌝ }
+    ensures { Supports register core text.now anchors.now (length work.old) list.old list.new result }
 {
     let n = engine::size(register);
     let links = engine::links(register);

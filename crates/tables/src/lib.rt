@@ -1,18 +1,18 @@
 // The tables of an expression's automaton are made here, as sets of bits, from its postfix code. What they are is stated by `Masked` of crate automaton;
 // specs/Builds.antt has the tables while they are made.
-ghost use mathlib.Core.Path.{_≡_};
-ghost use mathlib.Core.List.{List, _∷_};
-ghost use Prim.Native.Nat.{ℕ, _+_, _<_, _≤_};
-ghost use lib.ListN.{length};
-ghost use Rattle·book.specs.Causes.{maxLetters};
-ghost use Rattle·k2.specs.Bits.{digit};
-ghost use Rattle·paths.specs.Expressions.{Expr};
-ghost use Rattle·paths.specs.Verdicts.{InLimits};
-ghost use Rattle·reader.specs.Code.{code, value};
-ghost use Rattle·automaton.specs.Automata.{automaton};
-ghost use Rattle·automaton.specs.Masks.{Masked};
-ghost use Rattle·tables·specs.specs.Rows.{Joined, sensed, Mixed, Turned};
-ghost use Rattle·tables·specs.specs.Builds.{Part, parts, places, build, Holds, Next, Alone, inSense, Merging, Tabled, Unwritten};
+#![tactic(auto)]
+
+ghost use Rattle.std.specs.Prelude.{◌≡◌, List, ◌∷◌, ℕ, ◌+◌, ◌<◌, ◌≤◌, length};
+ghost use Rattle.book.specs.Causes.{max_letters};
+ghost use Rattle.k2.specs.Bits.{digit};
+ghost use Rattle.paths.specs.Expressions.{Expr};
+ghost use Rattle.paths.specs.Verdicts.{InLimits};
+ghost use Rattle.reader.specs.Code.{code, value};
+ghost use Rattle.automaton.specs.Automata.{automaton};
+ghost use Rattle.automaton.specs.Masks.{Masked};
+ghost use Rattle.tables.specs.Rows.{Joined, sensed, Mixed, Turned};
+ghost use Rattle.tables.specs.Builds.{Part, parts, places, build, Holds, Next, Alone, in_sense, Merging, Tabled, Unwritten};
+
 use reader::Item;
 
 // A state's bit is in a word: the start, and as many positions as an expression may have letters.
@@ -22,6 +22,7 @@ const STATES: usize = book::MAX_LETTERS + 1;
 const PLACES: usize = 19;
 
 // The expressions that wait: of each its first, last and own positions and whether it has the empty word; how many they are, and the positions used.
+#[derive(Clone, Copy)]
 pub struct Stack {
     pub first: [u64; PLACES],
     pub last: [u64; PLACES],
@@ -33,8 +34,8 @@ pub struct Stack {
 
 // `to` joined to the rows of the states in `from`.
 fn with_edges(rows: &mut [u64], from: u64, to: u64)
-    requires { ⌜ length (now rows) ≡ 64 ⌝ }
-    ensures { λ _. ⌜ Joined (now (rows .entry)) (digit from) to (now (rows .exit)) ⌝ }
+    requires { length rows.old ≡ 64 }
+    ensures { Joined rows.old (digit from) to rows.new }
 {
     let mut left = from;
     while left != 0 {
@@ -46,9 +47,9 @@ fn with_edges(rows: &mut [u64], from: u64, to: u64)
 
 // The rows of two tables exchanged at the states in own.
 fn exchange(a: &mut [u64], b: &mut [u64], own: u64)
-    requires { ⌜ (length (now a) ≡ 64) × (length (now b) ≡ 64) ⌝ }
-    ensures { λ _. ⌜ Mixed (now (a .entry)) (now (b .entry)) (digit own) (now (a .exit))
-        × Mixed (now (b .entry)) (now (a .entry)) (digit own) (now (b .exit)) ⌝ }
+    requires { (length a.old ≡ 64) × (length b.old ≡ 64) }
+    ensures { Mixed a.old b.old (digit own) a.new
+        × Mixed b.old a.old (digit own) b.new }
 {
     let mut left = own;
     while left != 0 {
@@ -62,8 +63,8 @@ fn exchange(a: &mut [u64], b: &mut [u64], own: u64)
 
 // The states in own entered by each letter in its other sense.
 fn mirror(enter: &mut [u64], own: u64)
-    requires { ⌜ length (now enter) ≡ 64 ⌝ }
-    ensures { λ _. ⌜ Turned (now (enter .entry)) own 64 (now (enter .exit)) ⌝ }
+    requires { length enter.old ≡ 64 }
+    ensures { Turned enter.old own 64 enter.new }
 {
     let mut c = 0;
     while c < 64 {
@@ -77,7 +78,7 @@ fn mirror(enter: &mut [u64], own: u64)
 
 // x, or nothing if n is 0.
 fn only(n: u64, x: u64) -> u64
-    ensures { λ r. ⌜ (n ≡ 0 → r ≡ 0) × (0 < n → r ≡ x) ⌝ }
+    ensures { (n ≡ 0 → result ≡ 0) × (0 < n → result ≡ x) }
 {
     if n == 0 {
         return 0;
@@ -87,8 +88,8 @@ fn only(n: u64, x: u64) -> u64
 
 // `bit` joined to the rows of the letters whose labels are in the set, all in one sense: 0 forward, 1 against.
 fn enter_by(enter: &mut [u64], labels: u32, sense: usize, bit: u64)
-    requires { ⌜ (length (now enter) ≡ 64) × (sense < 2) ⌝ }
-    ensures { λ _. ⌜ Joined (now (enter .entry)) (sensed labels sense) bit (now (enter .exit)) ⌝ }
+    requires { (length enter.old ≡ 64) × (sense < 2) }
+    ensures { Joined enter.old (sensed labels sense) bit enter.new }
 {
     let mut left = labels as u64;
     while left != 0 {
@@ -100,9 +101,9 @@ fn enter_by(enter: &mut [u64], labels: u32, sense: usize, bit: u64)
 
 // A symbol: one more position, entered by the letters that it stands for.
 fn symbol(enter: &mut [u64], s: Stack, forward: u32, against: u32) -> Stack
-    requires { ⌜ (length (now enter) ≡ 64) × (s .top < places) × (s .used < maxLetters) ⌝ }
-    ensures { λ r. ⌜ ((fs ps : List ℕ) (m : ℕ) (st : List Part) → Holds (build fs ps (now (enter .entry)) s) m st
-        → Holds (build fs ps (now (enter .exit)) r) (m + 1) (parts .of forward against ∷ st)) ⌝ }
+    requires { (length enter.old ≡ 64) × (s.top < places) × (s.used < max_letters) }
+    ensures { (fs ps : List ℕ) (m : ℕ) (st : List Part) → Holds (build fs ps enter.old s) m st
+        → Holds (build fs ps enter.new result) (m + 1) (parts.of forward against ∷ st) }
 {
     let mut r = s;
     let q = r.used + 1;
@@ -121,9 +122,9 @@ fn symbol(enter: &mut [u64], s: Stack, forward: u32, against: u32) -> Stack
 
 // Alternatives: the two that wait become one.
 fn either(s: Stack) -> Stack
-    requires { ⌜ (2 ≤ s .top) × (s .top ≤ places) ⌝ }
-    ensures { λ r. ⌜ ((fs ps es : List ℕ) (m : ℕ) (x y : Part) (st : List Part) → Holds (build fs ps es s) m (y ∷ x ∷ st)
-        → Holds (build fs ps es r) m (parts .either x y ∷ st)) ⌝ }
+    requires { (2 ≤ s.top) × (s.top ≤ places) }
+    ensures { (fs ps es : List ℕ) (m : ℕ) (x y : Part) (st : List Part) → Holds (build fs ps es s) m (y ∷ x ∷ st)
+        → Holds (build fs ps es result) m (parts.either x y ∷ st) }
 {
     let mut r = s;
     let j = r.top - 1;
@@ -138,10 +139,10 @@ fn either(s: Stack) -> Stack
 
 // A sequence: besides, the first of the right may follow the last of the left.
 fn followed(follow: &mut [u64], pred: &mut [u64], s: Stack) -> Stack
-    requires { ⌜ Merging 2 (now follow) (now pred) s ⌝ }
-    ensures { λ r. ⌜ ((es : List ℕ) (m : ℕ) (x y : Part) (st : List Part)
-        → Holds (build (now (follow .entry)) (now (pred .entry)) es s) m (y ∷ x ∷ st)
-        → Holds (build (now (follow .exit)) (now (pred .exit)) es r) m (parts .followed x y ∷ st)) ⌝ }
+    requires { Merging 2 follow.old pred.old s }
+    ensures { (es : List ℕ) (m : ℕ) (x y : Part) (st : List Part)
+        → Holds (build follow.old pred.old es s) m (y ∷ x ∷ st)
+        → Holds (build follow.new pred.new es result) m (parts.followed x y ∷ st) }
 {
     let mut r = s;
     let j = r.top - 1;
@@ -160,10 +161,10 @@ fn followed(follow: &mut [u64], pred: &mut [u64], s: Stack) -> Stack
 
 // One or more: the first may follow the last.
 fn repeated(follow: &mut [u64], pred: &mut [u64], s: Stack)
-    requires { ⌜ Merging 1 (now follow) (now pred) s ⌝ }
-    ensures { λ _. ⌜ ((es : List ℕ) (m : ℕ) (x : Part) (st : List Part)
-        → Holds (build (now (follow .entry)) (now (pred .entry)) es s) m (x ∷ st)
-        → Holds (build (now (follow .exit)) (now (pred .exit)) es s) m (parts .repeated x ∷ st)) ⌝ }
+    requires { Merging 1 follow.old pred.old s }
+    ensures { (es : List ℕ) (m : ℕ) (x : Part) (st : List Part)
+        → Holds (build follow.old pred.old es s) m (x ∷ st)
+        → Holds (build follow.new pred.new es s) m (parts.repeated x ∷ st) }
 {
     let j = s.top - 1;
     let last = s.last[j];
@@ -174,9 +175,9 @@ fn repeated(follow: &mut [u64], pred: &mut [u64], s: Stack)
 
 // Once or not at all.
 fn maybe(s: Stack) -> Stack
-    requires { ⌜ (1 ≤ s .top) × (s .top ≤ places) ⌝ }
-    ensures { λ r. ⌜ ((fs ps es : List ℕ) (m : ℕ) (x : Part) (st : List Part) → Holds (build fs ps es s) m (x ∷ st)
-        → Holds (build fs ps es r) m (parts .maybe x ∷ st)) ⌝ }
+    requires { (1 ≤ s.top) × (s.top ≤ places) }
+    ensures { (fs ps es : List ℕ) (m : ℕ) (x : Part) (st : List Part) → Holds (build fs ps es s) m (x ∷ st)
+        → Holds (build fs ps es result) m (parts.maybe x ∷ st) }
 {
     let mut r = s;
     let j = r.top - 1;
@@ -186,10 +187,10 @@ fn maybe(s: Stack) -> Stack
 
 // Inverted: read backwards, each letter in its other sense.
 fn inverted(follow: &mut [u64], pred: &mut [u64], enter: &mut [u64], s: Stack) -> Stack
-    requires { ⌜ Merging 1 (now follow) (now pred) s × (length (now enter) ≡ 64) ⌝ }
-    ensures { λ r. ⌜ ((m : ℕ) (x : Part) (st : List Part)
-        → Holds (build (now (follow .entry)) (now (pred .entry)) (now (enter .entry)) s) m (x ∷ st)
-        → Holds (build (now (follow .exit)) (now (pred .exit)) (now (enter .exit)) r) m (parts .inverted x ∷ st)) ⌝ }
+    requires { Merging 1 follow.old pred.old s × (length enter.old ≡ 64) }
+    ensures { (m : ℕ) (x : Part) (st : List Part)
+        → Holds (build follow.old pred.old enter.old s) m (x ∷ st)
+        → Holds (build follow.new pred.new enter.new result) m (parts.inverted x ∷ st) }
 {
     let mut r = s;
     let j = r.top - 1;
@@ -204,9 +205,9 @@ fn inverted(follow: &mut [u64], pred: &mut [u64], enter: &mut [u64], s: Stack) -
 
 // One number of the code.
 fn step(follow: &mut [u64], pred: &mut [u64], enter: &mut [u64], s: Stack, i: u64) -> Stack
-    requires { ⌜ Tabled (now follow) (now pred) (now enter) × ((c : List ℕ) × (x : Part) × Next (build (now follow) (now pred) (now enter) s) (i ∷ c) x) ⌝ }
-    ensures { λ r. ⌜ ((c : List ℕ) (x : Part) → Next (build (now (follow .entry)) (now (pred .entry)) (now (enter .entry)) s) (i ∷ c) x
-        → Next (build (now (follow .exit)) (now (pred .exit)) (now (enter .exit)) r) c x) ⌝ }
+    requires { Tabled follow.old pred.old enter.old × ((c : List ℕ) × (x : Part) × Next (build follow.old pred.old enter.old s) (i ∷ c) x) }
+    ensures { (c : List ℕ) (x : Part) → Next (build follow.old pred.old enter.old s) (i ∷ c) x
+        → Next (build follow.new pred.new enter.new result) c x }
 {
     let item = reader::item_of(i);
     match item {
@@ -226,6 +227,7 @@ fn step(follow: &mut [u64], pred: &mut [u64], enter: &mut [u64], s: Stack, i: u6
     }
 }
 
+#[derive(Drop)]
 pub struct Tables {
     pub follow: [u64; STATES],
     pub pred: [u64; STATES],
@@ -241,10 +243,10 @@ fn built(
     pred: &mut [u64],
     enter: &mut [u64],
 ) -> Stack
-    requires { ⌜ Tabled (now follow) (now pred) (now enter) × Unwritten (now follow) (now pred) (now enter)
-        × ((text : List ℕ) × (e : Expr) × InLimits text e × (now numbers ≡ code e)) ⌝ }
-    ensures { λ r. ⌜ ((text : List ℕ) (e : Expr) → InLimits text e → now (numbers .entry) ≡ code e
-        → Alone (build (now (follow .exit)) (now (pred .exit)) (now (enter .exit)) r) (value parts (inSense against e))) ⌝ }
+    requires { Tabled follow.old pred.old enter.old × Unwritten follow.old pred.old enter.old
+        × ((text : List ℕ) × (e : Expr) × InLimits text e × (numbers.now ≡ code e)) }
+    ensures { (text : List ℕ) (e : Expr) → InLimits text e → numbers.now ≡ code e
+        → Alone (build follow.new pred.new enter.new result) (value parts (in_sense against e)) }
 {
     let mut s = Stack {
         first: [0; PLACES],
@@ -267,9 +269,9 @@ fn built(
 
 // The tables of the automaton of the expression whose code it is; against the sense, those of its inverse.
 pub fn tables_of(numbers: &[u64], against: bool) -> Tables
-    requires { ⌜ ((text : List ℕ) × (e : Expr) × InLimits text e × (now numbers ≡ code e)) ⌝ }
-    ensures { λ r. ⌜ ((text : List ℕ) (e : Expr) → InLimits text e → now (numbers .entry) ≡ code e
-        → Masked (r .follow) (r .pred) (r .enter) (r .accepting) (automaton (inSense against e))) ⌝ }
+    requires { (text : List ℕ) × (e : Expr) × InLimits text e × (numbers.now ≡ code e) }
+    ensures { (text : List ℕ) (e : Expr) → InLimits text e → numbers.now ≡ code e
+        → Masked result.follow result.pred result.enter result.accepting (automaton (in_sense against e)) }
 {
     let mut follow = [0u64; STATES];
     let mut pred = [0u64; STATES];

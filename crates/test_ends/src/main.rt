@@ -1,70 +1,87 @@
 // Asks for the ends and the starts of records of small registers, and prints each question with its answer.
+#![tactic(auto)]
+
 use answers::Counted;
 use register::Register;
+use std::io;
+use std::io::Stdout;
 
-fn print(bytes: &[u8]) {
-    io::write_all(libc::STDOUT_FILENO, bytes);
+fn print(stdout: Stdout, bytes: &[u8]) -> io::Result<()> {
+    stdout.write_all(bytes)
 }
 
-fn print_number(x: u64) {
-    io::print_decimal(libc::STDOUT_FILENO, x);
+fn print_number(stdout: Stdout, x: u64) -> io::Result<()> {
+    stdout.print(x)
 }
 
 // The whole list as it was lent, so that words past the ends are seen too.
-fn print_list(list: &[u32]) {
+fn print_list(stdout: Stdout, list: &[u32]) -> io::Result<()> {
     let mut i = 0;
     while i < list.len() {
-        print(b" ");
-        print_number(list[i] as u64);
+        print(stdout, b" ")?;
+        print_number(stdout, list[i] as u64)?;
         i += 1;
     }
-    print(b"\n");
+    print(stdout, b"\n")
 }
 
 // What is asked: a record and an expression.
-fn print_question(record: u16, text: &[u8]) {
-    print_number(record as u64);
-    print(b" ");
-    print(text);
-    print(b"\n");
+fn print_question(stdout: Stdout, record: u16, text: &[u8]) -> io::Result<()> {
+    print_number(stdout, record as u64)?;
+    print(stdout, b" ")?;
+    print(stdout, text)?;
+    print(stdout, b"\n")
 }
 
-fn print_answer(answer: Counted) {
+fn print_answer(stdout: Stdout, answer: Counted) -> io::Result<()> {
     match answer {
         Counted::Count(total) => {
-            print(b" ");
-            print_number(total as u64);
-            print(b":");
+            print(stdout, b" ")?;
+            print_number(stdout, total as u64)?;
+            print(stdout, b":")?;
         }
         Counted::Refused(number) => {
-            print(b" refused ");
-            print_number(number as u64);
-            print(b":");
+            print(stdout, b" refused ")?;
+            print_number(stdout, number as u64)?;
+            print(stdout, b":")?;
         }
     }
+    Ok(())
 }
 
 // The ends of a record in the list that is lent.
-fn lent(register: Register, from: u16, text: &[u8], list: &mut [u32]) {
-    print_question(from, text);
-    print(b"ends");
-    print_answer(ends::ends(register, from, text, list));
-    print_list(list);
+fn lent(
+    stdout: Stdout,
+    register: Register,
+    from: u16,
+    text: &[u8],
+    list: &mut [u32],
+) -> io::Result<()> {
+    print_question(stdout, from, text)?;
+    print(stdout, b"ends")?;
+    print_answer(stdout, ends::ends(register, from, text, list))?;
+    print_list(stdout, list)
 }
 
 // Its starts.
-fn lent_starts(register: Register, to: u16, text: &[u8], list: &mut [u32]) {
-    print(b"starts");
-    print_answer(ends::starts(register, to, text, list));
-    print_list(list);
+fn lent_starts(
+    stdout: Stdout,
+    register: Register,
+    to: u16,
+    text: &[u8],
+    list: &mut [u32],
+) -> io::Result<()> {
+    print(stdout, b"starts")?;
+    print_answer(stdout, ends::starts(register, to, text, list))?;
+    print_list(stdout, list)
 }
 
 // Both questions of a register of four records at most; 9 stands in every word of the list before.
-fn ask(register: Register, at: u16, text: &[u8]) {
+fn ask(stdout: Stdout, register: Register, at: u16, text: &[u8]) -> io::Result<()> {
     let mut list = [9u32; 5];
-    lent(register, at, text, &mut list);
+    lent(stdout, register, at, text, &mut list)?;
     let mut others = [9u32; 5];
-    lent_starts(register, at, text, &mut others);
+    lent_starts(stdout, register, at, text, &mut others)
 }
 
 // The register with a link more.
@@ -80,67 +97,68 @@ fn sheet() -> Register {
 }
 
 // The expressions of K8 to K11 and others; the last two are each other's other sense.
-fn known() {
+fn known(stdout: Stdout) -> io::Result<()> {
     let register = sheet();
-    ask(register, 2, b"(a|b)+");
-    ask(register, 0, b"a*");
-    ask(register, 0, b"a+");
-    ask(register, 0, b"a/a|^b");
-    ask(register, 0, b"(a|b|^a|^b)*");
-    ask(register, 3, b"(a|b|^a|^b)*");
-    ask(register, 3, b"a");
-    ask(register, 0, b"^(a/b)");
-    ask(register, 1, b"!(b)");
-    ask(register, 1, b"a/b|a");
-    ask(register, 0, b"^(a/b|a)");
+    ask(stdout, register, 2, b"(a|b)+")?;
+    ask(stdout, register, 0, b"a*")?;
+    ask(stdout, register, 0, b"a+")?;
+    ask(stdout, register, 0, b"a/a|^b")?;
+    ask(stdout, register, 0, b"(a|b|^a|^b)*")?;
+    ask(stdout, register, 3, b"(a|b|^a|^b)*")?;
+    ask(stdout, register, 3, b"a")?;
+    ask(stdout, register, 0, b"^(a/b)")?;
+    ask(stdout, register, 1, b"!(b)")?;
+    ask(stdout, register, 1, b"a/b|a")?;
+    ask(stdout, register, 0, b"^(a/b|a)")
 }
 
 // A ring of three: of the wrong lengths, and all of them.
-fn ring() {
+fn ring(stdout: Stdout) -> io::Result<()> {
     let opened = Register::fresh(3);
     let register = linked(linked(linked(opened.register, 0, 0, 1), 1, 0, 2), 2, 0, 0);
-    ask(register, 0, b"a/a/a/a");
-    ask(register, 0, b"(a/a/a)+");
-    ask(register, 0, b"(a/a)+");
-    ask(register, 0, b"a/^a/a");
+    ask(stdout, register, 0, b"a/a/a/a")?;
+    ask(stdout, register, 0, b"(a/a/a)+")?;
+    ask(stdout, register, 0, b"(a/a)+")?;
+    ask(stdout, register, 0, b"a/^a/a")
 }
 
 // A withdrawn record has no ends and no starts and is none, not even its own by zero steps; reinstated it is again.
-fn withdrawn() {
+fn withdrawn(stdout: Stdout) -> io::Result<()> {
     let register = sheet();
     let gone = register.withdraw(3);
-    ask(gone.register, 3, b"a*");
-    ask(gone.register, 0, b"(a|b)*");
+    ask(stdout, gone.register, 3, b"a*")?;
+    ask(stdout, gone.register, 0, b"(a|b)*")?;
     let back = gone.register.reinstate(3);
-    ask(back.register, 3, b"a*");
+    ask(stdout, back.register, 3, b"a*")
 }
 
 // The first part of the ends and of the starts, with their number in all.
-fn first_part() {
+fn first_part(stdout: Stdout) -> io::Result<()> {
     let register = sheet();
     let mut none = [9u32; 0];
     let mut one = [9u32; 1];
     let mut two = [9u32; 2];
-    lent(register, 1, b"(a|b)+", &mut none);
-    lent(register, 1, b"(a|b)+", &mut one);
-    lent(register, 1, b"(a|b)+", &mut two);
+    lent(stdout, register, 1, b"(a|b)+", &mut none)?;
+    lent(stdout, register, 1, b"(a|b)+", &mut one)?;
+    lent(stdout, register, 1, b"(a|b)+", &mut two)?;
     let mut start = [9u32; 1];
-    lent_starts(register, 1, b"(a|b)+", &mut start);
+    lent_starts(stdout, register, 1, b"(a|b)+", &mut start)
 }
 
 // The causes in their order.
-fn refusals() {
+fn refusals(stdout: Stdout) -> io::Result<()> {
     let register = sheet();
-    ask(register, 4, b"a**");
-    ask(register, 4, b"a");
-    ask(register, 0, b"a**");
-    ask(register, 0, b"(((((((((a)))))))))");
+    ask(stdout, register, 4, b"a**")?;
+    ask(stdout, register, 4, b"a")?;
+    ask(stdout, register, 0, b"a**")?;
+    ask(stdout, register, 0, b"(((((((((a)))))))))")
 }
 
-fn main() {
-    known();
-    ring();
-    withdrawn();
-    first_part();
-    refusals();
+fn main(rt: HostRuntime) -> io::Result<()> {
+    let stdout = rt.stdout();
+    known(stdout)?;
+    ring(stdout)?;
+    withdrawn(stdout)?;
+    first_part(stdout)?;
+    refusals(stdout)
 }

@@ -1,23 +1,21 @@
 // Exports the inner tree operations (`rt staticlib test_trees`) to a Rust program that tests and measures them. Each promises what `operate` of crate tree
 // promises of its term (specs/Terms.antt).
+#![tactic(auto)]
+
+ghost use Rattle.std.specs.Prelude.{◌≡◌, [], ◌≤◌, length, take, replicate};
+ghost use Rattle.book.specs.Causes.{max_records};
+ghost use Rattle.k2.specs.Bits.{bit_at};
+ghost use Rattle.k2.specs.PairSets.{Cells, IsSet, union};
+ghost use Rattle.k2.specs.Trees.{tree_words};
+ghost use Rattle.bits.specs.BitSets.{none};
+ghost use Rattle.packing.specs.declared.loading.Sense.TheVariants.{Plain, Inverted};
+ghost use Rattle.tree.specs.declared.operations.Operation.TheVariants.{Union, Intersection, Difference, Product, Closure, Optional};
+ghost use Rattle.tree.specs.Calls.{sense_of};
+ghost use Rattle.tree.specs.Inner.{Roomy, TreeAt, Operated};
+ghost use Rattle.test_trees.specs.Terms.{on_two, on_one, any_letter, below, identity};
+
 use packing::Sense;
-use tree::Operand;
-use tree::Operation;
-use tree::Term;
-ghost use mathlib.Core.Path.{_≡_};
-ghost use mathlib.Core.List.{[]};
-ghost use Prim.Native.Nat.{_≤_};
-ghost use lib.ListN.{length, take, replicate};
-ghost use Rattle·book.specs.Causes.{maxRecords};
-ghost use Rattle·k2.specs.Bits.{bitAt};
-ghost use Rattle·k2.specs.PairSets.{Cells, IsSet, union};
-ghost use Rattle·k2.specs.Trees.{treeWords};
-ghost use Rattle·bits.specs.BitSets.{none};
-ghost use Rattle·packing.specs.declared.loading.Sense.the-variants.{Plain, Inverted};
-ghost use Rattle·tree.specs.declared.operations.Operation.the-variants.{Union, Intersection, Difference, Product, Closure, Optional};
-ghost use Rattle·tree.specs.Calls.{senseOf};
-ghost use Rattle·tree.specs.Inner.{Roomy, TreeAt, Operated};
-ghost use Rattle·test_trees·specs.specs.Terms.{onTwo, onOne, anyLetter, below, identity};
+use tree::{Operand, Operation, Term};
 
 // An operation on two trees, with no links. It has rows of its own.
 fn on_trees(
@@ -30,7 +28,7 @@ fn on_trees(
     n: usize,
     used: &[u64],
 ) -> usize
-    ensures { λ r. ⌜ Operated (onTwo operation left s right t) n [] (now (used .entry)) 16384 (now (work .entry)) (now (work .exit)) r ⌝ }
+    ensures { Operated (on_two operation left s right t) n [] used.now 16384 work.old work.new result }
 {
     let links: [u32; 1] = [0; 1];
     let mut rows: [u64; 16384] = [0; 16384];
@@ -62,15 +60,15 @@ fn on_two(
     work: &mut [u64],
     n: usize,
 ) -> usize
-    ensures { λ r. ⌜ Operated (onTwo operation left s right t) n [] (replicate 16 0) 16384 (now (work .entry)) (now (work .exit)) r ⌝ }
+    ensures { Operated (on_two operation left s right t) n [] (replicate 16 0) 16384 work.old work.new result }
 {
     let used: [u64; 16] = [0; 16];
     on_trees(operation, left, s, right, t, work, n, &used)
 }
 
-#[no_mangle]
+#[unsafe(no_mangle)]
 pub extern "C" fn tree_union_in(work: &mut [u64], n: usize, left: usize, right: usize) -> usize
-    ensures { λ r. ⌜ Operated (onTwo Union left Plain right Plain) n [] (replicate 16 0) 16384 (now (work .entry)) (now (work .exit)) r ⌝ }
+    ensures { Operated (on_two Union left Plain right Plain) n [] (replicate 16 0) 16384 work.old work.new result }
 {
     on_two(
         Operation::Union,
@@ -83,14 +81,14 @@ pub extern "C" fn tree_union_in(work: &mut [u64], n: usize, left: usize, right: 
     )
 }
 
-#[no_mangle]
+#[unsafe(no_mangle)]
 pub extern "C" fn tree_intersection_in(
     work: &mut [u64],
     n: usize,
     left: usize,
     right: usize,
 ) -> usize
-    ensures { λ r. ⌜ Operated (onTwo Intersection left Plain right Plain) n [] (replicate 16 0) 16384 (now (work .entry)) (now (work .exit)) r ⌝ }
+    ensures { Operated (on_two Intersection left Plain right Plain) n [] (replicate 16 0) 16384 work.old work.new result }
 {
     on_two(
         Operation::Intersection,
@@ -103,9 +101,9 @@ pub extern "C" fn tree_intersection_in(
     )
 }
 
-#[no_mangle]
+#[unsafe(no_mangle)]
 pub extern "C" fn tree_difference_in(work: &mut [u64], n: usize, left: usize, right: usize) -> usize
-    ensures { λ r. ⌜ Operated (onTwo Difference left Plain right Plain) n [] (replicate 16 0) 16384 (now (work .entry)) (now (work .exit)) r ⌝ }
+    ensures { Operated (on_two Difference left Plain right Plain) n [] (replicate 16 0) 16384 work.old work.new result }
 {
     on_two(
         Operation::Difference,
@@ -118,7 +116,7 @@ pub extern "C" fn tree_difference_in(work: &mut [u64], n: usize, left: usize, ri
     )
 }
 
-#[no_mangle]
+#[unsafe(no_mangle)]
 pub extern "C" fn tree_product_in(
     work: &mut [u64],
     n: usize,
@@ -127,7 +125,7 @@ pub extern "C" fn tree_product_in(
     s: u8,
     t: u8,
 ) -> usize
-    ensures { λ r. ⌜ Operated (onTwo Product left (senseOf s) right (senseOf t)) n [] (replicate 16 0) 16384 (now (work .entry)) (now (work .exit)) r ⌝ }
+    ensures { Operated (on_two Product left (sense_of s) right (sense_of t)) n [] (replicate 16 0) 16384 work.old work.new result }
 {
     let left_sense = tree::sense_of(s);
     let right_sense = tree::sense_of(t);
@@ -142,9 +140,9 @@ pub extern "C" fn tree_product_in(
     )
 }
 
-#[no_mangle]
+#[unsafe(no_mangle)]
 pub extern "C" fn tree_transpose_in(work: &mut [u64], n: usize, left: usize) -> usize
-    ensures { λ r. ⌜ Operated (onOne Union left Inverted) n [] (replicate 16 0) 16384 (now (work .entry)) (now (work .exit)) r ⌝ }
+    ensures { Operated (on_one Union left Inverted) n [] (replicate 16 0) 16384 work.old work.new result }
 {
     on_two(
         Operation::Union,
@@ -157,9 +155,9 @@ pub extern "C" fn tree_transpose_in(work: &mut [u64], n: usize, left: usize) -> 
     )
 }
 
-#[no_mangle]
+#[unsafe(no_mangle)]
 pub extern "C" fn tree_closure_in(work: &mut [u64], n: usize, left: usize) -> usize
-    ensures { λ r. ⌜ Operated (onOne Closure left Plain) n [] (replicate 16 0) 16384 (now (work .entry)) (now (work .exit)) r ⌝ }
+    ensures { Operated (on_one Closure left Plain) n [] (replicate 16 0) 16384 work.old work.new result }
 {
     on_two(
         Operation::Closure,
@@ -174,8 +172,8 @@ pub extern "C" fn tree_closure_in(work: &mut [u64], n: usize, left: usize) -> us
 
 // The records below n marked as in use.
 fn mark(used: &mut [u64], n: usize)
-    requires { ⌜ (n ≤ maxRecords) × (length (now used) ≡ 16) ⌝ }
-    ensures { λ _. ⌜ (bitAt (now (used .entry)) ≡ none → bitAt (now (used .exit)) ≡ below n) ⌝ }
+    requires { (n ≤ max_records) × (length used.old ≡ 16) }
+    ensures { bit_at used.old ≡ none → bit_at used.new ≡ below n }
 {
     let mut i = 0;
     while i < n {
@@ -184,10 +182,10 @@ fn mark(used: &mut [u64], n: usize)
     }
 }
 
-#[no_mangle]
+#[unsafe(no_mangle)]
 pub extern "C" fn tree_identity_in(work: &mut [u64], n: usize, left: usize) -> usize
-    ensures { λ r. ⌜ (Roomy n (onOne Optional left Plain) (length (now (work .entry))) → (a : Cells) → IsSet n a → take left (now (work .entry)) ≡ treeWords n a
-        → TreeAt n (union a (identity n)) (now (work .exit)) r) ⌝ }
+    ensures { Roomy n (on_one Optional left Plain) (length work.old) → (a : Cells) → IsSet n a → take left work.old ≡ tree_words n a
+        → TreeAt n (union a (identity n)) work.new result }
 {
     if book::MAX_RECORDS < n {
         return 0;
@@ -206,9 +204,9 @@ pub extern "C" fn tree_identity_in(work: &mut [u64], n: usize, left: usize) -> u
     )
 }
 
-#[no_mangle]
+#[unsafe(no_mangle)]
 pub extern "C" fn tree_letter_in(work: &mut [u64], n: usize, words: &[u32]) -> usize
-    ensures { λ r. ⌜ Operated anyLetter n (now (words .entry)) (replicate 16 0) 16384 (now (work .entry)) (now (work .exit)) r ⌝ }
+    ensures { Operated any_letter n words.now (replicate 16 0) 16384 work.old work.new result }
 {
     let used: [u64; 16] = [0; 16];
     let mut rows: [u64; 16384] = [0; 16384];

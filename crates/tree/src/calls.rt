@@ -1,36 +1,29 @@
 // The calls on lent trees and lists: each tests what it is lent, names the first cause against it, and hands over a tree or a list.
 // What they promise is stated in specs/Calls.antt.
+ghost use Rattle.std.specs.Prelude.{◌≡◌, true, [], ◌∷◌, ◌≤◌, length, take};
+ghost use Rattle.book.specs.Causes.{first_number, max_records};
+ghost use Rattle.k2.specs.Sizes.{most_tree_words};
+ghost use Rattle.k2.specs.PairSets.{Cells, IsSet, set_of, listed, union, intersection, difference, transpose, closure, PairsBelow};
+ghost use Rattle.k2.specs.Trees.{tree_words};
+ghost use Rattle.k2.specs.TreeSets.{set_in};
+ghost use Rattle.bits.specs.BitSets.{none};
+ghost use Rattle.rows.specs.RowSets.{no_pairs};
+ghost use Rattle.packing.specs.Senses.{sensed};
+ghost use Rattle.tree.specs.Inner.{tree_alone, outcome, Roomy, Lent, term_set, TreeAt};
+ghost use Rattle.answers.specs.Answers.{Whole, FirstPart};
+ghost use Rattle.tree.specs.Calls.{sense_of, product_sensed, lent_causes, Answered, Listed, tree_of_two};
+
 use crate::listing::hand_over;
-use crate::operations::Operand;
-use crate::operations::Operation;
-use crate::operations::Term;
-use crate::operations::no_operand;
-use crate::operations::operate;
+use crate::operations::{Operand, Operation, Term, no_operand, operate};
 use answers::Counted;
 use packing::Sense;
-ghost use mathlib.Core.Path.{_≡_};
-ghost use mathlib.Core.Bool.{true};
-ghost use mathlib.Core.List.{[], _∷_};
-ghost use Prim.Native.Nat.{_≤_};
-ghost use lib.ListN.{length, take};
-ghost use Rattle·book.specs.Causes.{firstNumber, maxRecords};
-ghost use Rattle·k2.specs.Sizes.{mostTreeWords};
-ghost use Rattle·k2.specs.PairSets.{Cells, IsSet, setOf, listed, union, intersection, difference, transpose, closure, PairsBelow};
-ghost use Rattle·k2.specs.Trees.{treeWords};
-ghost use Rattle·k2.specs.TreeSets.{setIn};
-ghost use Rattle·bits.specs.BitSets.{none};
-ghost use Rattle·rows.specs.RowSets.{noPairs};
-ghost use Rattle·packing.specs.Senses.{sensed};
-ghost use Rattle·tree·specs.specs.Inner.{treeAlone, outcome, Roomy, Lent, termSet, TreeAt};
-ghost use Rattle·answers.specs.Answers.{Whole, FirstPart};
-ghost use Rattle·tree·specs.specs.Calls.{senseOf, productSensed, lentCauses, Answered, Listed, treeOfTwo};
 
 // A pair word is from times this, and to.
 const PAIR_UNIT: u32 = book::MAX_RECORDS as u32;
 
 // Are both ends of each pair below n?
 fn pairs_below(pairs: &[u32], n: usize) -> bool
-    ensures { λ r. ⌜ (r ≡ true → PairsBelow n (now (pairs .entry))) × (PairsBelow n (now (pairs .entry)) → r ≡ true) ⌝ }
+    ensures { (result ≡ true → PairsBelow n pairs.now) × (PairsBelow n pairs.now → result ≡ true) }
 {
     let mut i = 0;
     while i < pairs.len() {
@@ -48,7 +41,7 @@ fn pairs_below(pairs: &[u32], n: usize) -> bool
 
 // The number of the first cause against n, the pairs, the trees and the length of the work, in this order; 0 if there is none.
 fn refusal(n: usize, pairs: &[u32], a: &[u64], b: &[u64], room: usize) -> u32
-    ensures { λ r. ⌜ r ≡ firstNumber (lentCauses n (now (pairs .entry)) (now (a .entry) ∷ now (b .entry) ∷ []) room) ⌝ }
+    ensures { result ≡ first_number (lent_causes n pairs.now (a.now ∷ b.now ∷ []) room) }
 {
     if n < 1 {
         return book::BAD_SIZE;
@@ -73,8 +66,8 @@ fn refusal(n: usize, pairs: &[u32], a: &[u64], b: &[u64], room: usize) -> u32
 
 // Refused if the tree at the front of work is longer than its list; otherwise it is handed over.
 fn settle(work: &[u64], len: usize, out: &mut [u64]) -> Counted
-    requires { ⌜ len ≤ length (now work) ⌝ }
-    ensures { λ r. ⌜ Whole (take len (now (work .entry))) (now (out .entry)) (now (out .exit)) r ⌝ }
+    requires { len ≤ length work.now }
+    ensures { Whole (take len work.now) out.old out.new result }
 {
     if out.len() < len {
         return Counted::Refused(book::SHORT_LIST);
@@ -85,7 +78,7 @@ fn settle(work: &[u64], len: usize, out: &mut [u64]) -> Counted
 
 // A tree of so many words as an operand.
 fn tree_of(size: usize, sense: Sense) -> Operand
-    ensures { λ r. ⌜ r ≡ treeAlone size sense ⌝ }
+    ensures { result ≡ tree_alone size sense }
 {
     Operand {
         size,
@@ -97,9 +90,9 @@ fn tree_of(size: usize, sense: Sense) -> Operand
 
 // The outcome of a term, as a tree at the front of work; how many words it has. No record is in use. It has rows of its own.
 fn made(term: Term, work: &mut [u64], n: usize, links: &[u32]) -> usize
-    requires { ⌜ Roomy n term (length (now work)) ⌝ }
-    ensures { λ r. ⌜ (r ≤ length (now (work .entry))) × ((a b : Cells) → Lent term n (now (links .entry)) none (now (work .entry)) a b
-        → TreeAt n (termSet term n (now (links .entry)) none a b) (now (work .exit)) r) ⌝ }
+    requires { Roomy n term (length work.old) }
+    ensures { (result ≤ length work.old) × ((a b : Cells) → Lent term n links.now none work.old a b
+        → TreeAt n (term_set term n links.now none a b) work.new result) }
 {
     let used: [u64; 16] = [0; 16];
     let mut rows: [u64; k2::ROWS_WORDS] = [0; k2::ROWS_WORDS];
@@ -108,7 +101,7 @@ fn made(term: Term, work: &mut [u64], n: usize, links: &[u32]) -> usize
 
 // The sense that a number of the exported call stands for.
 pub fn sense_of(word: u8) -> Sense
-    ensures { λ r. ⌜ r ≡ senseOf word ⌝ }
+    ensures { result ≡ sense_of word }
 {
     if word == 0 {
         return Sense::Plain;
@@ -127,9 +120,9 @@ fn binary(
     out: &mut [u64],
     work: &mut [u64],
 ) -> Counted
-    ensures { λ r. ⌜ Answered n [] (now (a .entry) ∷ now (b .entry) ∷ []) (length (now (work .entry)))
-        (treeOfTwo (λ x y. outcome operation n none (sensed «a_sense» x) (sensed «b_sense» y)) n (now (a .entry)) (now (b .entry)))
-        (now (out .entry)) (now (out .exit)) r ⌝ }
+    ensures { Answered n [] (a.now ∷ b.now ∷ []) (length work.old)
+        (tree_of_two (λ x y. outcome operation n none (sensed a_sense x) (sensed b_sense y)) n a.now b.now)
+        out.old out.new result }
 {
     let no_links: [u32; 1] = [0; 1];
     let cause = refusal(n, &no_links[..0], a, b, work.len());
@@ -156,8 +149,8 @@ fn plain(
     out: &mut [u64],
     work: &mut [u64],
 ) -> Counted
-    ensures { λ r. ⌜ Answered n [] (now (a .entry) ∷ now (b .entry) ∷ []) (length (now (work .entry)))
-        (treeOfTwo (outcome operation n none) n (now (a .entry)) (now (b .entry))) (now (out .entry)) (now (out .exit)) r ⌝ }
+    ensures { Answered n [] (a.now ∷ b.now ∷ []) (length work.old)
+        (tree_of_two (outcome operation n none) n a.now b.now) out.old out.new result }
 {
     binary(operation, n, a, Sense::Plain, b, Sense::Plain, out, work)
 }
@@ -171,8 +164,8 @@ fn unary(
     out: &mut [u64],
     work: &mut [u64],
 ) -> Counted
-    ensures { λ r. ⌜ Answered n [] (now (a .entry) ∷ []) (length (now (work .entry)))
-        (treeWords n (outcome operation n none noPairs (sensed sense (setIn n (now (a .entry)))))) (now (out .entry)) (now (out .exit)) r ⌝ }
+    ensures { Answered n [] (a.now ∷ []) (length work.old)
+        (tree_words n (outcome operation n none no_pairs (sensed sense (set_in n a.now)))) out.old out.new result }
 {
     let no_links: [u32; 1] = [0; 1];
     let cause = refusal(n, &no_links[..0], a, &a[..0], work.len());
@@ -191,24 +184,24 @@ fn unary(
 
 // The tree of the pairs in either.
 pub fn union(n: usize, a: &[u64], b: &[u64], out: &mut [u64], work: &mut [u64]) -> Counted
-    ensures { λ r. ⌜ Answered n [] (now (a .entry) ∷ now (b .entry) ∷ []) (length (now (work .entry)))
-        (treeOfTwo union n (now (a .entry)) (now (b .entry))) (now (out .entry)) (now (out .exit)) r ⌝ }
+    ensures { Answered n [] (a.now ∷ b.now ∷ []) (length work.old)
+        (tree_of_two union n a.now b.now) out.old out.new result }
 {
     plain(Operation::Union, n, a, b, out, work)
 }
 
 // The tree of the pairs in both.
 pub fn intersection(n: usize, a: &[u64], b: &[u64], out: &mut [u64], work: &mut [u64]) -> Counted
-    ensures { λ r. ⌜ Answered n [] (now (a .entry) ∷ now (b .entry) ∷ []) (length (now (work .entry)))
-        (treeOfTwo intersection n (now (a .entry)) (now (b .entry))) (now (out .entry)) (now (out .exit)) r ⌝ }
+    ensures { Answered n [] (a.now ∷ b.now ∷ []) (length work.old)
+        (tree_of_two intersection n a.now b.now) out.old out.new result }
 {
     plain(Operation::Intersection, n, a, b, out, work)
 }
 
 // The tree of the pairs in the first and not in the second.
 pub fn difference(n: usize, a: &[u64], b: &[u64], out: &mut [u64], work: &mut [u64]) -> Counted
-    ensures { λ r. ⌜ Answered n [] (now (a .entry) ∷ now (b .entry) ∷ []) (length (now (work .entry)))
-        (treeOfTwo difference n (now (a .entry)) (now (b .entry))) (now (out .entry)) (now (out .exit)) r ⌝ }
+    ensures { Answered n [] (a.now ∷ b.now ∷ []) (length work.old)
+        (tree_of_two difference n a.now b.now) out.old out.new result }
 {
     plain(Operation::Difference, n, a, b, out, work)
 }
@@ -223,32 +216,32 @@ pub fn product(
     out: &mut [u64],
     work: &mut [u64],
 ) -> Counted
-    ensures { λ r. ⌜ Answered n [] (now (a .entry) ∷ now (b .entry) ∷ []) (length (now (work .entry)))
-        (treeOfTwo (productSensed n «a_sense» «b_sense») n (now (a .entry)) (now (b .entry))) (now (out .entry)) (now (out .exit)) r ⌝ }
+    ensures { Answered n [] (a.now ∷ b.now ∷ []) (length work.old)
+        (tree_of_two (product_sensed n a_sense b_sense) n a.now b.now) out.old out.new result }
 {
     binary(Operation::Product, n, a, a_sense, b, b_sense, out, work)
 }
 
 // The tree of the pairs exchanged.
 pub fn transpose(n: usize, a: &[u64], out: &mut [u64], work: &mut [u64]) -> Counted
-    ensures { λ r. ⌜ Answered n [] (now (a .entry) ∷ []) (length (now (work .entry)))
-        (treeWords n (transpose (setIn n (now (a .entry))))) (now (out .entry)) (now (out .exit)) r ⌝ }
+    ensures { Answered n [] (a.now ∷ []) (length work.old)
+        (tree_words n (transpose (set_in n a.now))) out.old out.new result }
 {
     unary(Operation::Union, n, a, Sense::Inverted, out, work)
 }
 
 // The tree of the closure: one or more pairs that lead from one to the other.
 pub fn closure(n: usize, a: &[u64], out: &mut [u64], work: &mut [u64]) -> Counted
-    ensures { λ r. ⌜ Answered n [] (now (a .entry) ∷ []) (length (now (work .entry)))
-        (treeWords n (closure n (setIn n (now (a .entry))))) (now (out .entry)) (now (out .exit)) r ⌝ }
+    ensures { Answered n [] (a.now ∷ []) (length work.old)
+        (tree_words n (closure n (set_in n a.now))) out.old out.new result }
 {
     unary(Operation::Closure, n, a, Sense::Plain, out, work)
 }
 
 // The tree of a list of pair words, in any order and with repeats.
 pub fn make(n: usize, pairs: &[u32], out: &mut [u64], work: &mut [u64]) -> Counted
-    ensures { λ r. ⌜ Answered n (now (pairs .entry)) [] (length (now (work .entry)))
-        (treeWords n (setOf (now (pairs .entry)))) (now (out .entry)) (now (out .exit)) r ⌝ }
+    ensures { Answered n pairs.now [] (length work.old)
+        (tree_words n (set_of pairs.now)) out.old out.new result }
 {
     let none: [u64; 1] = [0; 1];
     let empty = &none[..0];
@@ -272,8 +265,8 @@ pub fn make(n: usize, pairs: &[u32], out: &mut [u64], work: &mut [u64]) -> Count
 
 // The pairs of a tree handed over.
 fn list_pairs(tree: &[u64], n: usize, out: &mut [u32]) -> Counted
-    requires { ⌜ (n ≤ maxRecords) × (length (now tree) ≤ mostTreeWords) ⌝ }
-    ensures { λ r. ⌜ ((a : Cells) → IsSet n a → now (tree .entry) ≡ treeWords n a → FirstPart (listed n a) (now (out .entry)) (now (out .exit)) r) ⌝ }
+    requires { (n ≤ max_records) × (length tree.now ≤ most_tree_words) }
+    ensures { (a : Cells) → IsSet n a → tree.now ≡ tree_words n a → FirstPart (listed n a) out.old out.new result }
 {
     let mut rows: [u64; k2::ROWS_WORDS] = [0; k2::ROWS_WORDS];
     packing::load(tree, n, Sense::Plain, &mut rows);
@@ -282,8 +275,8 @@ fn list_pairs(tree: &[u64], n: usize, out: &mut [u32]) -> Counted
 
 // The pairs of a tree, ascending, as many as the list takes; how many they are in all.
 pub fn list(n: usize, a: &[u64], out: &mut [u32], work: &mut [u64]) -> Counted
-    ensures { λ r. ⌜ Listed n (now (a .entry) ∷ []) (length (now (work .entry)))
-        (listed n (setIn n (now (a .entry)))) (now (out .entry)) (now (out .exit)) r ⌝ }
+    ensures { Listed n (a.now ∷ []) (length work.old)
+        (listed n (set_in n a.now)) out.old out.new result }
 {
     let none: [u32; 1] = [0; 1];
     let cause = refusal(n, &none[..0], a, &a[..0], work.len());

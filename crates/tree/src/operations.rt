@@ -1,20 +1,19 @@
 // An operation takes operands that lie in a part of the lent work. Each is a k2-tree with the links of its letters beside it, read with one sense.
 // What an operation promises is stated in specs/Inner.antt.
+ghost use Rattle.std.specs.Prelude.{◌≡◌, true, ℕ, length, take, drop};
+ghost use Rattle.k2.specs.Sizes.{rows_words};
+ghost use Rattle.k2.specs.Bits.{bit_at};
+ghost use Rattle.k2.specs.PairSets.{Cells, IsSet, union};
+ghost use Rattle.k2.specs.Trees.{tree_words};
+ghost use Rattle.rows.specs.Rows.{flat};
+ghost use Rattle.rows.specs.RowSets.{crossed_words};
+ghost use Rattle.packing.specs.Senses.{sensed, opposite};
+ghost use Rattle.tree.specs.Inner.{nothing, flipped, valued, LinksBelow, Apart, outcome, Roomy, Room, InRows, Operated, Loading};
+
 use packing::Sense;
-ghost use mathlib.Core.Path.{_≡_};
-ghost use mathlib.Core.Bool.{true};
-ghost use Prim.Native.Nat.{ℕ};
-ghost use lib.ListN.{length, take, drop};
-ghost use Rattle·k2.specs.Sizes.{rowsWords};
-ghost use Rattle·k2.specs.Bits.{bitAt};
-ghost use Rattle·k2.specs.PairSets.{Cells, IsSet, union};
-ghost use Rattle·k2.specs.Trees.{treeWords};
-ghost use Rattle·rows.specs.Rows.{flat};
-ghost use Rattle·rows.specs.RowSets.{crossedWords};
-ghost use Rattle·packing.specs.Senses.{sensed, opposite};
-ghost use Rattle·tree·specs.specs.Inner.{nothing, flipped, valued, LinksBelow, Apart, outcome, Roomy, Room, InRows, Operated, Loading};
 
 // What is done with the sets of two operands; the last three take the union of both, so that an operation on one operand has none as its first.
+#[derive(Clone, Copy)]
 pub enum Operation {
     Union,
     Intersection,
@@ -27,6 +26,7 @@ pub enum Operation {
 
 // An operand: the words of its tree, the sense in which it is read, and the letters whose links are beside the tree, as two sets of labels: those crossed
 // forward, and those crossed against their sense.
+#[derive(Clone, Copy)]
 pub struct Operand {
     pub size: usize,
     pub sense: Sense,
@@ -35,6 +35,7 @@ pub struct Operand {
 }
 
 // An operation with its operands; the first one's tree lies before the second's.
+#[derive(Clone, Copy)]
 pub struct Term {
     pub operation: Operation,
     pub first: Operand,
@@ -43,7 +44,7 @@ pub struct Term {
 
 // The operand that has no pair.
 pub fn no_operand() -> Operand
-    ensures { λ r. ⌜ r ≡ nothing ⌝ }
+    ensures { result ≡ nothing }
 {
     Operand {
         size: 0,
@@ -55,7 +56,7 @@ pub fn no_operand() -> Operand
 
 // The other sense.
 fn opposite(sense: Sense) -> Sense
-    ensures { λ r. ⌜ r ≡ opposite sense ⌝ }
+    ensures { result ≡ opposite sense }
 {
     match sense {
         Sense::Plain => Sense::Inverted,
@@ -65,7 +66,7 @@ fn opposite(sense: Sense) -> Sense
 
 // The operand with each pair exchanged; nothing is written.
 pub fn inverted(operand: Operand) -> Operand
-    ensures { λ r. ⌜ r ≡ flipped operand ⌝ }
+    ensures { result ≡ flipped operand }
 {
     let sense = operand.sense;
     Operand {
@@ -78,9 +79,9 @@ pub fn inverted(operand: Operand) -> Operand
 
 // The links of an operand's letters put into rows, read with its sense.
 fn put_links(operand: Operand, links: &[u32], rows: &mut [u64])
-    requires { ⌜ length (now rows) ≡ rowsWords ⌝ }
-    ensures { λ _. ⌜ ((x : Cells) → bitAt (now (rows .entry)) ≡ flat x
-        → bitAt (now (rows .exit)) ≡ flat (union x (sensed (operand .sense) (crossedWords (now (links .entry)) (operand .forward) (operand .against))))) ⌝ }
+    requires { length rows.old ≡ rows_words }
+    ensures { (x : Cells) → bit_at rows.old ≡ flat x
+        → bit_at rows.new ≡ flat (union x (sensed operand.sense (crossed_words links.now operand.forward operand.against))) }
 {
     if operand.forward == 0 {
         if operand.against == 0 {
@@ -96,9 +97,9 @@ fn put_links(operand: Operand, links: &[u32], rows: &mut [u64])
 
 // The tree of an operand, at word `at`, put into rows, read with its sense.
 fn load_tree(work: &[u64], at: usize, operand: Operand, n: usize, rows: &mut [u64])
-    requires { ⌜ Loading n operand at (now work) (now rows) ⌝ }
-    ensures { λ _. ⌜ ((a x : Cells) → IsSet n a → take (operand .size) (drop at (now (work .entry))) ≡ treeWords n a → bitAt (now (rows .entry)) ≡ flat x
-        → bitAt (now (rows .exit)) ≡ flat (union x (sensed (operand .sense) a))) ⌝ }
+    requires { Loading n operand at work.now rows.old }
+    ensures { (a x : Cells) → IsSet n a → take operand.size (drop at work.now) ≡ tree_words n a → bit_at rows.old ≡ flat x
+        → bit_at rows.new ≡ flat (union x (sensed operand.sense a)) }
 {
     if operand.size == 0 {
         return;
@@ -110,9 +111,9 @@ fn load_tree(work: &[u64], at: usize, operand: Operand, n: usize, rows: &mut [u6
 
 // An operand, whose tree is at word `at`, put into rows.
 fn load(work: &[u64], at: usize, operand: Operand, n: usize, links: &[u32], rows: &mut [u64])
-    requires { ⌜ Loading n operand at (now work) (now rows) ⌝ }
-    ensures { λ _. ⌜ ((a x : Cells) → IsSet n a → take (operand .size) (drop at (now (work .entry))) ≡ treeWords n a → bitAt (now (rows .entry)) ≡ flat x
-        → bitAt (now (rows .exit)) ≡ flat (union x (valued (now (links .entry)) operand a))) ⌝ }
+    requires { Loading n operand at work.now rows.old }
+    ensures { (a x : Cells) → IsSet n a → take operand.size (drop at work.now) ≡ tree_words n a → bit_at rows.old ≡ flat x
+        → bit_at rows.new ≡ flat (union x (valued links.now operand a)) }
 {
     load_tree(work, at, operand, n, rows);
     put_links(operand, links, rows);
@@ -121,11 +122,11 @@ fn load(work: &[u64], at: usize, operand: Operand, n: usize, links: &[u32], rows
 // The operation on the set in rows and the second operand, which is loaded into rows of its own, for a product with its pairs exchanged: intersection,
 // difference or product. Left in rows.
 fn with_second(term: Term, work: &[u64], n: usize, links: &[u32], rows: &mut [u64])
-    requires { ⌜ Roomy n term (length (now work)) × Apart (term .operation) × (length (now rows) ≡ rowsWords) ⌝ }
-    ensures { λ _. ⌜ ((a b : Cells) (u : ℕ → ℕ) → IsSet n a → IsSet n b
-        → take (term .second .size) (drop (term .first .size) (now (work .entry))) ≡ treeWords n b
-        → LinksBelow n (now (links .entry)) → bitAt (now (rows .entry)) ≡ flat a
-        → bitAt (now (rows .exit)) ≡ flat (outcome (term .operation) n u a (valued (now (links .entry)) (term .second) b))) ⌝ }
+    requires { Roomy n term (length work.now) × Apart term.operation × (length rows.old ≡ rows_words) }
+    ensures { (a b : Cells) (u : ℕ → ℕ) → IsSet n a → IsSet n b
+        → take term.second.size (drop term.first.size work.now) ≡ tree_words n b
+        → LinksBelow n links.now → bit_at rows.old ≡ flat a
+        → bit_at rows.new ≡ flat (outcome term.operation n u a (valued links.now term.second b)) }
 {
     let mut other: [u64; k2::ROWS_WORDS] = [0; k2::ROWS_WORDS];
     let first = term.first;
@@ -153,10 +154,10 @@ fn with_second(term: Term, work: &[u64], n: usize, links: &[u32], rows: &mut [u6
 
 // The operation on the set in rows and the second operand, left in rows.
 fn combine(term: Term, work: &[u64], n: usize, links: &[u32], used: &[u64], rows: &mut [u64])
-    requires { ⌜ Roomy n term (length (now work)) × (length (now used) ≡ 16) × (length (now rows) ≡ rowsWords) ⌝ }
-    ensures { λ _. ⌜ ((a b : Cells) → IsSet n a → IsSet n b → take (term .second .size) (drop (term .first .size) (now (work .entry))) ≡ treeWords n b
-        → LinksBelow n (now (links .entry)) → bitAt (now (rows .entry)) ≡ flat a
-        → bitAt (now (rows .exit)) ≡ flat (outcome (term .operation) n (bitAt (now (used .entry))) a (valued (now (links .entry)) (term .second) b))) ⌝ }
+    requires { Roomy n term (length work.now) × (length used.now ≡ 16) × (length rows.old ≡ rows_words) }
+    ensures { (a b : Cells) → IsSet n a → IsSet n b → take term.second.size (drop term.first.size work.now) ≡ tree_words n b
+        → LinksBelow n links.now → bit_at rows.old ≡ flat a
+        → bit_at rows.new ≡ flat (outcome term.operation n (bit_at used.now) a (valued links.now term.second b)) }
 {
     let first = term.first;
     let second = term.second;
@@ -184,7 +185,7 @@ fn combine(term: Term, work: &[u64], n: usize, links: &[u32], used: &[u64], rows
 
 // Is there room for an operation on operands of these sizes in so many words of work, of the set of records in use and of rows?
 fn room(n: usize, term: Term, work: usize, used: usize, rows: usize) -> bool
-    ensures { λ r. ⌜ (r ≡ true → Room n term work used rows) × (Room n term work used rows → r ≡ true) ⌝ }
+    ensures { (result ≡ true → Room n term work used rows) × (Room n term work used rows → result ≡ true) }
 {
     if book::MAX_RECORDS < n {
         return false;
@@ -217,7 +218,7 @@ pub fn outcome_rows(
     used: &[u64],
     rows: &mut [u64],
 ) -> bool
-    ensures { λ r. ⌜ InRows term n (now (links .entry)) (now (used .entry)) (now (work .entry)) (now (rows .entry)) (now (rows .exit)) r ⌝ }
+    ensures { InRows term n links.now used.now work.now rows.old rows.new result }
 {
     if !room(n, term, work.len(), used.len(), rows.len()) {
         return false;
@@ -238,7 +239,7 @@ pub fn operate(
     used: &[u64],
     rows: &mut [u64],
 ) -> usize
-    ensures { λ r. ⌜ Operated term n (now (links .entry)) (now (used .entry)) (length (now (rows .entry))) (now (work .entry)) (now (work .exit)) r ⌝ }
+    ensures { Operated term n links.now used.now (length rows.old) work.old work.new result }
 {
     if outcome_rows(term, work, n, links, used, rows) {
         return packing::pack(rows, n, work);

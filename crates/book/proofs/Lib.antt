@@ -1,0 +1,9 @@
+pub mod ListLaws
+pub mod SetLaws
+pub mod TotalLaws
+pub mod RankLaws
+pub mod CloseLaws
+pub mod BookLaws
+pub mod GivenLaws
+pub mod BookCases
+pub mod OrderLaws

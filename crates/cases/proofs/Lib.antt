@@ -1,0 +1,2 @@
+pub mod RequestTables
+pub mod Cases

@@ -1,0 +1,7 @@
+-- `host::edits::dating_unlock` is `register::edit_in` with the call Unlock. Assumes nothing.
+use Rattle.register.specs.Calls.{call_of}
+use Rattle.host.proofs.edits.dating_unlock.Goals as goal
+
+pub returns : goal.returns
+unfolding call_of
+returns c = c.edit_in.ensures

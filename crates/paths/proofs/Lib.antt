@@ -1,0 +1,14 @@
+pub mod SymbolLaws
+pub mod DescentSoundnessLaws
+pub mod DescentEquationLaws
+pub mod DescentCompletenessLaws
+pub mod VerdictLaws
+pub mod ChainLaws
+pub mod ChainOrderLaws
+pub mod RelationLaws
+pub mod PairLaws
+pub mod AcceptanceLaws
+pub mod FirstChainLaws
+pub mod GraphLaws
+pub mod RenamingLaws
+pub mod ClosingLaws

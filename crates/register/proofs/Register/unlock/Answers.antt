@@ -1,0 +1,7 @@
+-- `register::Register::unlock` meets its contract: that of `apply`. Assumes nothing.
+use Rattle.register.specs.Calls.{call_of}
+use Rattle.register.proofs.Register.unlock.Goals as goal
+
+pub returns : goal.returns
+unfolding call_of
+returns c = c.apply.ensures
