@@ -55,8 +55,7 @@ fn next_of_use(links: &[u32], enter: &[u64], at: usize) -> usize
     requires { (at ≤ length links.now) × (length enter.now ≡ 64) }
     ensures { (at ≤ result) × (result ≤ length links.now) × NoUse links.now enter.now at result }
 {
-    let mut i = at;
-    while i < links.len() {
+    for i in at..links.len() {
         let letter = (links[i] / LETTER_UNIT % LABEL_SETS * 2) as usize;
         if enter[letter] != 0 {
             return i;
@@ -64,7 +63,6 @@ fn next_of_use(links: &[u32], enter: &[u64], at: usize) -> usize
         if enter[letter + 1] != 0 {
             return i;
         }
-        i += 1;
     }
     links.len()
 }
@@ -98,12 +96,10 @@ fn index_of(arcs: &[u32], key: u32, index: &mut [u16])
     requires { Indexing arcs.now key index.old }
     ensures { Indexed (key_at arcs.now key) (length arcs.now) index.new }
 {
-    let mut j = 0;
-    while j < arcs.len() {
+    for j in 0..arcs.len() {
         let record = ((arcs[j] >> key) % RECORD_UNIT) as usize;
         index[book::MAX_RECORDS + j] = index[record];
         index[record] = (j + 1) as u16;
-        j += 1;
     }
 }
 

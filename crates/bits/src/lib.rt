@@ -2,21 +2,58 @@
 // What they promise is stated by `bit_at` and `ones_below` of crate k2, and by specs/BitSets.antt.
 #![tactic(auto)]
 
-ghost use Rattle.std.specs.Prelude.{◌≡◌, ◌+◌, ◌*◌, ◌/◌, ◌%◌, ◌^◌, ◌<◌, ◌≤◌, min, length, replicate};
+ghost use Rattle.std.specs.Prelude.{◌≡◌, ◌+◌, ◌*◌, ◌/◌, ◌%◌, ◌^◌, ◌<◌, ◌≤◌, min, length, replicate, get_or};
 ghost use Rattle.std.specs.Int.Count.{count_trailing_zeros};
+ghost use Rattle.std.specs.Iterator.{at_most};
 ghost use Rattle.k2.specs.Bits.{bit_at, ones_below};
-ghost use Rattle.bits.specs.BitSets.{put, four_at, Next};
+ghost use Rattle.bits.specs.BitSets.{put, four_at, Next, TakesLowest};
+
+// The places of the bits of a word that are set, lowest first: `left` is the word without those passed.
+#[derive(Clone, Copy)]
+pub struct SetBits {
+    pub left: u64,
+}
+
+impl SetBits {
+    pub fn of(word: u64) -> SetBits
+        ensures { result.left ≡ «word» }
+    {
+        SetBits { left: word }
+    }
+}
+
+impl Iterator for SetBits {
+    type Item = usize;
+
+    ghost next_gives = { λ s r t. TakesLowest s.left r t.left };
+
+    ghost remaining = { λ s. at_most s.left };
+
+    fn next(&mut self) -> Option<usize> {
+        if self.left == 0 {
+            return None;
+        }
+        let p = self.left.trailing_zeros() as usize;
+        self.left &= self.left - 1;
+        Some(p)
+    }
+}
+
+// What is left of a word from its bit p on, the lowest of which is bit p; 0 past the end.
+fn from_bit(words: &[u64], p: usize) -> u64
+    ensures { result ≡ get_or words.now (p / 64) 0 / 2 ^ (p % 64) }
+{
+    match words.get(p / 64) {
+        Some(word) => word >> (p % 64),
+        None => 0,
+    }
+}
 
 // The bit at p; 0 past the end.
 pub fn bit(words: &[u64], p: usize) -> u64
     ensures { result ≡ bit_at words.now p }
 {
-    let q = p / 64;
-    if q < words.len() {
-        (words[q] >> (p % 64)) % 2
-    } else {
-        0
-    }
+    from_bit(words, p) % 2
 }
 
 // Set the bit at p.
@@ -24,8 +61,7 @@ pub fn set_bit(words: &mut [u64], p: usize)
     requires { p / 64 < length words.old }
     ensures { bit_at words.new ≡ put p 1 (bit_at words.old) }
 {
-    let q = p / 64;
-    words[q] = words[q] | (1 << (p % 64));
+    words[p / 64] |= 1 << (p % 64);
 }
 
 // The four bits from p on, a multiple of 4; 0 past the end.
@@ -33,23 +69,14 @@ pub fn four(words: &[u64], p: usize) -> u64
     requires { p % 4 ≡ 0 }
     ensures { result ≡ four_at (bit_at words.now) p }
 {
-    let q = p / 64;
-    if q < words.len() {
-        (words[q] >> (p % 64)) % 16
-    } else {
-        0
-    }
+    from_bit(words, p) % 16
 }
 
 // All words 0.
 pub fn clear(words: &mut [u64])
     ensures { words.new ≡ replicate (length words.old) 0 }
 {
-    let mut i = 0;
-    while i < words.len() {
-        words[i] = 0;
-        i += 1;
-    }
+    words.fill(0);
 }
 
 // How many of the bits 0 to p - 1 are set.
@@ -58,21 +85,19 @@ pub fn rank(words: &[u64], p: usize) -> usize
 {
     let q = p / 64;
     if words.len() <= q {
-        return ones(words, words.len());
+        return ones(words);
     }
-    ones(words, q) + u64::count_ones(words[q] % (1 << (p % 64))) as usize
+    ones(&words[..q]) + (words[q] % (1 << (p % 64))).count_ones() as usize
 }
 
-// How many bits of the first `count` words are set.
-fn ones(words: &[u64], count: usize) -> usize
-    requires { (count ≤ length words.now) × (count * 64 < 2 ^ 64) }
-    ensures { result ≡ ones_below (bit_at words.now) (count * 64) }
+// How many bits are set.
+fn ones(words: &[u64]) -> usize
+    requires { length words.now * 64 < 2 ^ 64 }
+    ensures { result ≡ ones_below (bit_at words.now) (length words.now * 64) }
 {
     let mut n: usize = 0;
-    let mut i = 0;
-    while i < count {
-        n += u64::count_ones(words[i]) as usize;
-        i += 1;
+    for word in words {
+        n += word.count_ones() as usize;
     }
     n
 }
@@ -82,24 +107,15 @@ pub fn next(words: &[u64], lo: usize, end: usize) -> usize
     requires { lo ≤ end }
     ensures { Next (bit_at words.now) lo end result }
 {
-    let mut q = lo / 64;
-    if words.len() <= q {
-        return end;
-    }
-    let rest = words[q] >> (lo % 64);
+    let rest = from_bit(words, lo);
     if rest != 0 {
         return lowest_set(lo, rest, end);
     }
-    q += 1;
     let past = end / 64;
-    while q <= past {
-        if words.len() <= q {
-            return end;
-        }
+    for q in lo / 64 + 1..words.len().min(past + 1) {
         if words[q] != 0 {
             return lowest_set(q * 64, words[q], end);
         }
-        q += 1;
     }
     end
 }
@@ -109,6 +125,5 @@ fn lowest_set(at: usize, w: u64, end: usize) -> usize
     requires { at ≤ end }
     ensures { result ≡ min end (at + count_trailing_zeros 64 w) }
 {
-    let k = u64::trailing_zeros(w) as usize;
-    if k < end - at { at + k } else { end }
+    at + (w.trailing_zeros() as usize).min(end - at)
 }

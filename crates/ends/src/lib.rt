@@ -40,10 +40,8 @@ fn list(seen: &[u64], states: u64, n: usize, out: &mut [u32]) -> usize
         × Shown (places (meets seen.now states) n) out.old out.new }
 {
     let mut t = 0;
-    let mut y = 0;
-    while y < n {
+    for y in 0..n {
         t = write(out, t, seen[y] & states, y as u32);
-        y += 1;
     }
     t
 }

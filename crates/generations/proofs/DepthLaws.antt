@@ -23,7 +23,7 @@ use lib.ListN.{length, get_or, set, replicate, length-set}
 use lib.Seq.{get_or-set_same, get_or-set_other}
 use Rattle.book.specs.Basics.{bit}
 use Rattle.k2.specs.Bits.{ones_below}
-use Rattle.k2.specs.BitLaws.{ones-le}
+use Rattle.k2.specs.BitLaws.{ones-le, ones_same}
 use Rattle.k2.specs.PairSetLaws.{bit_small}
 use Rattle.automaton.proofs.LevelLaws.{Which, less, same, more, which}
 use Rattle.register.specs.MarkLaws.{mark_back}
@@ -38,11 +38,6 @@ ones_mono : (f g : ℕ → ℕ) (n : ℕ) → ((k : ℕ) → f k ≤ g k) → on
 unfolding ones_below
 ones_mono f g zero h = omega arith
 ones_mono f g (suc n) h = let z = ones_mono f g n h in let y = h n in omega arith
-
-ones_same : (f g : ℕ → ℕ) (n : ℕ) → ((k : ℕ) → k < n → f k ≡ g k) → ones_below f n ≡ ones_below g n
-unfolding ones_below
-ones_same f g zero h = refl
-ones_same f g (suc n) h = let z = ones_same f g n (λ k l. h k (omega arith)) in let y = h n (omega arith) in omega arith
 
 -- one more
 ones_other : (f g : ℕ → ℕ) (y n : ℕ) → ((k : ℕ) → (k ≡ y → ⊥) → f k ≡ g k) → f y ≡ 0 → g y ≡ 1 → y < n → ones_below g n ≡ suc (ones_below f n)

@@ -55,12 +55,10 @@ pub fn visit_all(links: &[u32], n: usize, depths: &mut [u32]) -> bool
 {
     let mut index = [0u16; arcs::INDEX_WORDS];
     arcs::index_by_reached(links, &mut index);
-    let mut y = 0;
-    while y < n {
+    for y in 0..n {
         if visit(links, &index, y, depths) == ENTERED {
             return false;
         }
-        y += 1;
     }
     true
 }

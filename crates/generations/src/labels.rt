@@ -19,12 +19,10 @@ pub const TEXT_BYTES: usize = 2 * book::LABELS + 2;
 pub fn any_above(labels: &[u8]) -> bool
     ensures { result ≡ above labels.now }
 {
-    let mut i = 0;
-    while i < labels.len() {
+    for i in 0..labels.len() {
         if book::LABELS <= labels[i] as usize {
             return true;
         }
-        i += 1;
     }
     false
 }
@@ -35,10 +33,8 @@ pub fn set_of(labels: &[u8]) -> u32
     ensures { Contains result labels.now }
 {
     let mut set: u32 = 0;
-    let mut i = 0;
-    while i < labels.len() {
+    for i in 0..labels.len() {
         set = set | (1 << labels[i]);
-        i += 1;
     }
     set
 }
@@ -49,14 +45,12 @@ pub fn keep(words: &[u32], set: u32, kept: &mut [u32]) -> usize
     ensures { (result ≤ max_links) × (take result kept.new ≡ labelled set words.now) }
 {
     let mut count = 0;
-    let mut i = 0;
-    while i < words.len() {
+    for i in 0..words.len() {
         let word = words[i];
         if rows::has_label(set, links::label_of(word)) {
             kept[count] = word;
             count += 1;
         }
-        i += 1;
     }
     count
 }
@@ -67,14 +61,12 @@ fn spell_labels(set: u32, text: &mut [u8]) -> usize
     ensures { (result ≤ 52) × (take result text.new ≡ letters_after open_group (places (digit set) 26)) }
 {
     let mut count = 0;
-    let mut label: u32 = 0;
-    while label < LABELS {
+    for label in 0u32..LABELS {
         if rows::has_label(set, label) {
             text[count] = separator(count);
             text[count + 1] = b'a' + label as u8;
             count += 2;
         }
-        label += 1;
     }
     count
 }

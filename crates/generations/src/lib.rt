@@ -34,12 +34,10 @@ fn count_in_use(marks: &[u32], n: usize) -> usize
     ensures { (ds : List ℕ) → result ≡ length (chosen marks.now ds n) }
 {
     let mut count = 0;
-    let mut y = 0;
-    while y < n {
+    for y in 0..n {
         if marks[y] != WITHDRAWN_MARK {
             count += 1;
         }
-        y += 1;
     }
     count
 }
@@ -50,13 +48,11 @@ fn write_numbers(marks: &[u32], depths: &[u32], n: usize, list: &mut [u32]) -> u
     ensures { Wrote 0 (chosen marks.now depths.now n) list.old list.new result }
 {
     let mut count = 0;
-    let mut y = 0;
-    while y < n {
+    for y in 0..n {
         if marks[y] != WITHDRAWN_MARK {
             list[count] = depths[y] - 2;
             count += 1;
         }
-        y += 1;
     }
     count
 }
@@ -66,12 +62,10 @@ fn first_joined(rows: &[u64], n: usize) -> usize
     requires { n ≤ max_records }
     ensures { Smallest (Joined rows.now) n result }
 {
-    let mut x = 0;
-    while x < n {
+    for x in 0..n {
         if bits::bit(rows, x * book::MAX_RECORDS + x) == 1 {
             return x;
         }
-        x += 1;
     }
     n
 }

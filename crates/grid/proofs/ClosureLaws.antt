@@ -30,7 +30,7 @@ use Rattle.rows.specs.Rows.{flat}
 use Rattle.rows.specs.RowLaws.{flat_at}
 use Rattle.rows.specs.Steps.{Masked}
 use Rattle.grid.specs.Grid.{row_of, first_rows, first}
-use Rattle.grid.specs.GridLaws.{within_in, within_same, within_set}
+use Rattle.grid.specs.GridLaws.{within_in, within_row, within_same, within_set}
 use Rattle.grid.specs.Steps.{held, Clean, empty_marks, Filled, Started, Half, RowClosed, Onward}
 use Rattle.grid.proofs.RowLaws.{row_empty, row_held}
 use Rattle.grid.proofs.SearchLaws.{empty_row, put_keeps}
@@ -134,13 +134,14 @@ abbrev pub Settled : ℕ → Cells → (ℕ → ℕ) → ℕ → Type 0
 Settled n a c u = (c u ≡ 1) ⊎ ((y : ℕ) → y < n → a u y ≡ 0)
 
 -- records that are not filled
-pub settled_gap : (n w : ℕ) (c f : ℕ → ℕ) (ws ms : List ℕ) (lo p : ℕ) → p ≤ n → Filled n ms f → Gap f lo p
+pub settled_gap : (n w : ℕ) (c f : ℕ → ℕ) (ws ms : List ℕ) (lo p : ℕ) → Filled n ms f → Gap f lo p
     → ((u : ℕ) → u < lo → Settled n (first n w ws ms) c u) → (u : ℕ) → u < p → Settled n (first n w ws ms) c u
-settled_gap n w c f ws ms lo p pl F g all u l = go (dec_lt u lo)
+settled_gap n w c f ws ms lo p F g all u l = go (dec_lt u lo) (dec_lt u n)
   where
-    go : Dec (u < lo) → Settled n (first n w ws ms) c u
-    go (yes h) = all u h
-    go (no h) = inr (λ y yl. unmasked_none n w ws ms u (omega arith) (F.all u (omega arith) (g u (omega arith) l)) y yl)
+    go : Dec (u < lo) → Dec (u < n) → Settled n (first n w ws ms) c u
+    go (yes h) i = all u h
+    go (no h) (yes i) = inr (λ y yl. unmasked_none n w ws ms u i (F.all u i (g u (omega arith) l)) y yl)
+    go (no h) (no i) = inr (λ y yl. within_row n (first_rows w ws ms) u y (omega arith))
 
 pub settled_next : (n : ℕ) (a : Cells) (c d : ℕ → ℕ) (x : ℕ) → ((u : ℕ) → u < x → Settled n a c u) → ((u : ℕ) → c u ≡ 1 → d u ≡ 1)
     → d x ≡ 1 → (u : ℕ) → u < x + 1 → Settled n a d u

@@ -1,94 +1,44 @@
--- Laws of the search for the next column of a row, word by word. Assumes nothing.
-use mathlib.Core.Path.{◌≡◌, sym, ap, ◌∙◌}
-use mathlib.Core.Logic.{◌⊎◌, inl, inr}
-use mathlib.Core.List.{List}
-use Prim.Native.Nat.{ℕ, ◌+◌, ◌-◌, ◌*◌, ◌/◌, ◌%◌, ◌^◌, ◌≤◌, ◌<◌}
-use native.Mathlib.Nat.{div-one}
-use native.Mathlib.Decide.{dec_lt}
-use native.Mathlib.Omega.{arith}
-use lib.ListN.{get_or}
+-- Laws of the columns below n of row x of the first relation, word by word.
+--   uncut_one, uncut_gap
+--                  a column of a row cut to n, and a gap in it, as those of the row
+--   gap_words      no column stands in words that are not in the mask
+--   word_digit, word_gap
+--                  the digits of a word that is in it are its columns, and a gap in the word is one in the row
+-- Assumes nothing.
+use Rattle.std.proofs.Common.{◌≡◌, sym, ap, ◌∙◌, List, ℕ, ◌+◌, ◌-◌, ◌*◌, ◌≤◌, ◌<◌, min, ltb, get_or, arith, lt-ltb, le-ltb}
+use Rattle.std.proofs.Math.Decide.{dec_lt}
+use Rattle.book.specs.Basics.{pick}
 use Rattle.k2.specs.Bits.{digit}
-use Rattle.k2.specs.DigitLaws.{digit_add, digit_big, digit_none}
-use Rattle.k2.specs.WordLaws.{digit_all}
 use Rattle.bits.specs.BitSets.{Gap}
-use Rattle.grid.specs.Grid.{row_of}
-use Rattle.grid.specs.Steps.{Lowest}
-use Rattle.grid.proofs.RowLaws.{row_empty, row_in}
+use Rattle.grid.specs.Grid.{first_rows}
+use Rattle.grid.specs.Steps.{cut_row}
+use Rattle.grid.proofs.ListingLaws.{cut_gap, cut_at}
 
--- a word that is not 0 has a bit
-pub lowest_some : (v r : ℕ) → v < 2 ^ 64 → (v ≡ 0 → ⊥) → Lowest (digit v) 0 64 r → r < 64
-lowest_some v r f n L = go (dec_lt r 64)
-  where
-    go : Dec (r < 64) → r < 64
-    go (yes h) = h
-    go (no h) = absurd (n (digit_all 64 v f (λ j l. L.gap j (omega arith) (omega arith))))
-
-module _ (ws : List ℕ) (b m : ℕ) where
-  -- words that are not in the mask
-  pub gap_words : (c k : ℕ) → Lowest (digit m) (c + 1) 64 k → Gap (row_of ws b m) (c * 64 + 64) (k * 64)
-  gap_words c k L j h l = row_empty ws b m j (L.gap (j / 64) (omega arith) (omega arith))
-
-  pub gap_on : (lo p q : ℕ) → Gap (row_of ws b m) lo p → Gap (row_of ws b m) p q → Gap (row_of ws b m) lo q
-  gap_on lo p q g h j l a = go (dec_lt j p)
+module _ (n : ℕ) (f : ℕ → ℕ) where
+  pub uncut_one : (y : ℕ) → cut_row n f y ≡ 1 → (y < n) × (f y ≡ 1)
+  unfolding cut_row
+  uncut_one y e = go (dec_lt y n)
     where
-      go : Dec (j < p) → row_of ws b m j ≡ 0
-      go (yes d) = g j l d
-      go (no d) = h j (omega arith) a
+      go : Dec (y < n) → (y < n) × (f y ≡ 1)
+      go (yes h) = (h, rw (lt-ltb y n h) at e)
+      go (no h) = let z : ◌≡◌ {A = ℕ} 0 1 = rw (le-ltb y n (omega arith)) at e in absurd (omega arith)
 
-  -- a word that is 0
-  pub gap_zero : (k : ℕ) → digit m k ≡ 1 → get_or ws (b + k) 0 ≡ 0 → Gap (row_of ws b m) (k * 64) (k * 64 + 64)
-  gap_zero k d e j h l =
-      let q : j / 64 ≡ k = omega arith in
-      row_in ws b m k j q d ∙ ap (λ (v : ℕ). digit v (j % 64)) e ∙ digit_none (j % 64)
+  pub uncut_gap : (p q : ℕ) → Gap (cut_row n f) p q → Gap f (min p n) (min q n)
+  unfolding cut_row
+  uncut_gap p q g y a b = rw (lt-ltb y n (omega arith)) at (g y (omega arith) (omega arith))
 
-  -- the lowest bit of what is left of word k from column y on
-  pub found : (lo w k y r : ℕ) → lo ≤ y → y / 64 ≡ k → k < w → digit m k ≡ 1 → get_or ws (b + k) 0 < 2 ^ 64 → Gap (row_of ws b m) lo y
-      → Lowest (digit (get_or ws (b + k) 0 / 2 ^ (y % 64))) 0 64 r → r < 64 → (y + r ≤ w * 64) × Lowest (row_of ws b m) lo (w * 64) (y + r)
-  found lo w k y r lh yk kw d f g L rl = (omega (arith, inside), record { low = omega arith; gap = gap_on lo y (y + r) g here; hit = λ h. hit })
-    where
-      v : ℕ
-      v = get_or ws (b + k) 0
+module _ (n w x : ℕ) (ws ms : List ℕ) where
+  pub gap_words : (c k : ℕ) → Gap (digit (get_or ms x 0)) c k → Gap (cut_row n (first_rows w ws ms x)) (c * 64) (k * 64)
+  unfolding first_rows
+  gap_words c k g = cut_gap n w (x * w) (get_or ms x 0) x ws c k g
 
-      one : digit v (y % 64 + r) ≡ 1
-      one = digit_add v (y % 64) r ∙ L.hit rl
+  module _ (c v u : ℕ) (d : digit (get_or ms x 0) c ≡ 1) (same : u ≡ get_or ws (x * w + c) 0)
+      (e : (j : ℕ) → j < 64 → digit v j ≡ pick (ltb (c * 64 + j) n) (digit u j) 0) where
+    pub word_digit : (j : ℕ) → j < 64 → digit v j ≡ cut_row n (first_rows w ws ms x) (c * 64 + j)
+    unfolding first_rows
+    word_digit j h = cut_at n w (x * w) (get_or ms x 0) x ws c v d (λ i l. e i l ∙ ap (λ (k : ℕ). pick (ltb (c * 64 + i) n) (digit k i) 0) same) j h
 
-      inside : y % 64 + r < 64
-      inside = go (dec_lt (y % 64 + r) 64)
-        where
-          go : Dec (y % 64 + r < 64) → y % 64 + r < 64
-          go (yes h) = h
-          go (no h) = absurd (omega (arith, one, digit_big 64 (y % 64 + r) v f (omega arith)))
-
-      here : Gap (row_of ws b m) y (y + r)
-      here j h l =
-          let q : j / 64 ≡ k = omega (arith, inside) in
-          let e : j % 64 ≡ y % 64 + (j - y) = omega (arith, inside) in
-          row_in ws b m k j q d ∙ ap (digit v) e ∙ digit_add v (y % 64) (j - y) ∙ L.gap (j - y) (omega arith) (omega arith)
-
-      hit : row_of ws b m (y + r) ≡ 1
-      hit =
-          let q : (y + r) / 64 ≡ k = omega (arith, inside) in
-          let e : (y + r) % 64 ≡ y % 64 + r = omega (arith, inside) in
-          row_in ws b m k (y + r) q d ∙ ap (digit v) e ∙ one
-
-  -- nothing is left of the word
-  pub gap_left : (k y : ℕ) → y / 64 ≡ k → (digit m k ≡ 0) ⊎ ((digit m k ≡ 1) × (get_or ws (b + k) 0 / 2 ^ (y % 64) ≡ 0)) → Gap (row_of ws b m) y (k * 64 + 64)
-  gap_left k y yk (inl d) j h l = let q : k ≡ j / 64 = omega arith in row_empty ws b m j (ap (digit m) (sym q) ∙ d)
-  gap_left k y yk (inr p) j h l =
-      let q : j / 64 ≡ k = omega arith in
-      let e : j % 64 ≡ y % 64 + (j - y) = omega arith in
-      row_in ws b m k j q p.0 ∙ ap (digit (get_or ws (b + k) 0)) e ∙ digit_add (get_or ws (b + k) 0) (y % 64) (j - y)
-      ∙ ap (λ (v : ℕ). digit v (j - y)) p.1 ∙ digit_none (j - y)
-
-  pub lowest_end : (lo w p : ℕ) → lo ≤ w * 64 → w * 64 ≤ p → Gap (row_of ws b m) lo p → Lowest (row_of ws b m) lo (w * 64) (w * 64)
-  lowest_end lo w p h l g = record { low = h; gap = λ j a z. g j a (omega arith); hit = λ z. absurd (omega arith) }
-
-  pub lowest_after : (lo p end r : ℕ) → lo ≤ p → Gap (row_of ws b m) lo p → Lowest (row_of ws b m) p end r → Lowest (row_of ws b m) lo end r
-  lowest_after lo p end r h g L = record { low = omega (arith, L.low); gap = gap_on lo p r g L.gap; hit = L.hit }
-
-  -- the lowest bit of a whole word
-  pub found_whole : (lo w k r : ℕ) → lo ≤ k * 64 → k < w → digit m k ≡ 1 → get_or ws (b + k) 0 < 2 ^ 64 → Gap (row_of ws b m) lo (k * 64)
-      → Lowest (digit (get_or ws (b + k) 0)) 0 64 r → r < 64 → (k * 64 + r ≤ w * 64) × Lowest (row_of ws b m) lo (w * 64) (k * 64 + r)
-  found_whole lo w k r lh kw d f g L rl =
-      let z : k * 64 % 64 ≡ 0 = omega arith in
-      found lo w k (k * 64) r lh (omega arith) kw d f g (rw (z, div-one) L) rl
+    pub word_gap : (p q : ℕ) → Gap (digit v) p q → q ≤ 64 → Gap (cut_row n (first_rows w ws ms x)) (c * 64 + p) (c * 64 + q)
+    word_gap p q g l y a b =
+        let s : c * 64 + (y - c * 64) ≡ y = omega arith in
+        rw s at (sym (word_digit (y - c * 64) (omega arith)) ∙ g (y - c * 64) (omega arith) (omega arith))

@@ -1,9 +1,11 @@
 pub mod ScanLaws
+pub mod OnesLaws
 pub mod RowLaws
 pub mod RelationLaws
 pub mod ColumnLaws
 pub mod SearchLaws
 pub mod ClosureLaws
+pub mod GoesLaws
 pub mod MarkLaws
 pub mod ProductLaws
 pub mod PairLaws

@@ -1,34 +1,29 @@
 -- Laws of listing: the columns of a row, word by word.
 --   columns_none, columns_hit, columns_gap, columns_same, columns_split, columns_row
 --                  the columns of a row: none, one more, over a gap, of equal rows, in two parts; they are its pair words
---   word_inside, word_found, word_rest, word_done
---                  the bits of a word, lowest first: the next one, what is left after it, and when nothing is
---   cut_out, cut_gap, cut_word, cut_all
---                  a row cut to n, word by word: past n, words that are not in the mask, one that is, past the last
+--   cut_out, cut_gap, cut_at, cut_word, cut_all
+--                  a row cut to n, word by word: past n, words that are not in the mask, the digits of one that is, its columns, past the last
 --   rows_none, rows_next, rows_all
 --                  the rows: none, the next, all are the list of the set
 -- Assumes nothing.
 use mathlib.Core.Path.{◌≡◌, refl, sym, ap, ap₂, ◌∙◌}
 use mathlib.Core.List.{List, [], ◌∷◌, ◌++◌, append-nil, append_assoc}
-use Prim.Native.Nat.{ℕ, zero, suc, ◌+◌, ◌-◌, ◌*◌, ◌/◌, ◌%◌, ◌^◌, ◌≤◌, ◌<◌}
+use Prim.Native.Nat.{ℕ, zero, suc, ◌+◌, ◌-◌, ◌*◌, ◌/◌, ◌%◌, ◌≤◌, ◌<◌}
 use native.Mathlib.Nat.{add-zero, add-suc}
 use native.Mathlib.Numerals.{add-one}
 use native.Mathlib.Decide.{dec_lt}
 use native.Mathlib.Omega.{arith}
 use lib.Dec.{ltb}
 use lib.ListN.{get_or}
-use lib.Pow.{shr-shr}
 use borrow.Author.Tests.{lt-ltb, le-ltb}
 use Rattle.book.specs.Basics.{pick}
 use Rattle.k2.specs.Bits.{digit}
-use Rattle.k2.specs.DigitLaws.{digit_add, digit_big, digit_none}
 use Rattle.k2.specs.PairSets.{Cells, if_set, row_pairs, rows_pairs, listed}
 use Rattle.bits.specs.BitSets.{Gap}
 use Rattle.grid.specs.Grid.{row_of, first_rows, within}
 use Rattle.grid.specs.GridLaws.{within_in}
-use Rattle.grid.specs.Steps.{Lowest, cut_row, columns}
+use Rattle.grid.specs.Steps.{cut_row, columns}
 use Rattle.grid.proofs.RowLaws.{row_in, row_empty}
-use Rattle.grid.proofs.ColumnLaws.{lowest_some}
 
 -- ---- columns
 pub columns_none : (f : ℕ → ℕ) (at : ℕ) → columns f at 0 ≡ []
@@ -73,37 +68,6 @@ unfolding row_pairs columns
 columns_row a x zero = refl
 columns_row a x (suc m) = ap (λ (l : List ℕ). l ++ if_set (a x m) (x * 1024 + m)) (columns_row a x m)
 
--- ---- the bits of a word, lowest first: rest is what is left of it from digit s on
-module _ (v s r k : ℕ) (at : ℕ) (fits : v < 2 ^ 64) (is : r ≡ v / 2 ^ s) (small : r < 2 ^ 64) (some : r ≡ 0 → ⊥) (L : Lowest (digit r) 0 64 k) where
-  moved : (j : ℕ) → digit v (s + j) ≡ digit r j
-  moved j = digit_add v s j ∙ ap (λ (u : ℕ). digit u j) (sym is)
-
-  one : digit v (s + k) ≡ 1
-  one = moved k ∙ L.hit (lowest_some r k small some L)
-
-  pub word_inside : s + k < 64
-  word_inside = go (dec_lt (s + k) 64)
-    where
-      go : Dec (s + k < 64) → s + k < 64
-      go (yes h) = h
-      go (no h) = absurd (omega (arith, one, digit_big 64 (s + k) v fits (omega arith)))
-
-  pub word_found : columns (digit v) at (s + k + 1) ≡ columns (digit v) at s ++ ((at + (s + k)) ∷ [])
-  word_found =
-      columns_hit (digit v) at (s + k) one
-      ∙ ap (λ (l : List ℕ). l ++ ((at + (s + k)) ∷ []))
-      (columns_gap (digit v) at s (s + k) (omega arith)
-      (λ j a b. let e : j ≡ s + (j - s) = omega arith in ap (digit v) e ∙ moved (j - s) ∙ L.gap (j - s) (omega arith) (omega arith)))
-
-  pub word_rest : r / 2 ^ k / 2 ≡ v / 2 ^ (s + k + 1)
-  word_rest = ap (λ (u : ℕ). u / 2 ^ k / 2) is ∙ ap (λ (u : ℕ). u / 2) (shr-shr v s k) ∙ shr-shr v (s + k) 1
-
--- nothing is left of it
-pub word_done : (v s at : ℕ) → s ≤ 64 → v / 2 ^ s ≡ 0 → columns (digit v) at 64 ≡ columns (digit v) at s
-word_done v s at l z =
-    columns_gap (digit v) at s 64 l
-    (λ j a b. let e : j ≡ s + (j - s) = omega arith in ap (digit v) e ∙ digit_add v s (j - s) ∙ ap (λ (u : ℕ). digit u (j - s)) z ∙ digit_none (j - s))
-
 -- ---- a row, word by word
 module _ (n w b m x : ℕ) (ws : List ℕ) where
   abbrev f : ℕ → ℕ
@@ -122,15 +86,16 @@ module _ (n w b m x : ℕ) (ws : List ℕ) where
   cut_gap c k g y h l = cut_empty y (g (y / 64) (omega arith) (omega arith)) (dec_lt y n)
 
   -- a word that is in it
-  pub cut_word : (c v : ℕ) → digit m c ≡ 1 → ((j : ℕ) → j < 64 → digit v j ≡ pick (ltb (c * 64 + j) n) (digit (get_or ws (b + c) 0) j) 0)
-      → (at : ℕ) → columns f at (c * 64 + 64) ≡ columns f at (c * 64) ++ columns (digit v) (at + c * 64) 64
-  cut_word c v d e at = columns_split f (digit v) at (c * 64) 64 (λ j h. e j h ∙ unfold cut_row in (ap (λ (u : ℕ). pick (ltb (c * 64 + j) n) u 0) (here j h)))
-    where
-      here : (j : ℕ) → j < 64 → digit (get_or ws (b + c) 0) j ≡ row_of ws b m (c * 64 + j)
-      here j h =
-          let q : (c * 64 + j) / 64 ≡ c = omega arith in
-          let r : (c * 64 + j) % 64 ≡ j = omega arith in
-          sym (row_in ws b m c (c * 64 + j) q d ∙ ap (digit (get_or ws (b + c) 0)) r)
+  module _ (c v : ℕ) (d : digit m c ≡ 1) (e : (j : ℕ) → j < 64 → digit v j ≡ pick (ltb (c * 64 + j) n) (digit (get_or ws (b + c) 0) j) 0) where
+    pub cut_at : (j : ℕ) → j < 64 → digit v j ≡ cut_row n (row_of ws b m) (c * 64 + j)
+    unfolding cut_row
+    cut_at j h =
+        let q : (c * 64 + j) / 64 ≡ c = omega arith in
+        let r : (c * 64 + j) % 64 ≡ j = omega arith in
+        e j h ∙ ap (λ (u : ℕ). pick (ltb (c * 64 + j) n) u 0) (sym (row_in ws b m c (c * 64 + j) q d ∙ ap (digit (get_or ws (b + c) 0)) r))
+
+    pub cut_word : (at : ℕ) → columns f at (c * 64 + 64) ≡ columns f at (c * 64) ++ columns (digit v) (at + c * 64) 64
+    cut_word at = columns_split f (digit v) at (c * 64) 64 cut_at
 
   -- past the last
   pub cut_all : (c at : ℕ) → n ≤ c * 64 → columns (cut_row n (row_of ws b m)) at (c * 64) ≡ columns (cut_row n (row_of ws b m)) at n

@@ -11,16 +11,14 @@ use Prim.Native.Nat.{ℕ, ◌+◌, ◌*◌, ◌/◌, ◌%◌, ◌^◌, ◌<◌, 
 use native.Mathlib.Nat.{lt_of_le_of_lt}
 use native.Mathlib.Omega.{arith}
 use lib.Bits.{bit_and, and_le_l}
-use lib.Count.{count_trailing_zeros}
 use lib.ListN.{get_or}
 use Rattle.k2.specs.Bits.{digit, bit_at}
 use Rattle.k2.specs.DigitLaws.{digit_and, digit_none}
 use Rattle.bits.specs.BitSets.{both, Gap}
 use Rattle.grid.specs.Grid.{row_of}
-use Rattle.grid.specs.Steps.{Meets}
+use Rattle.grid.specs.Steps.{low, Meets}
 use Rattle.grid.proofs.RowLaws.{row_empty, row_in}
-use Rattle.grid.proofs.ScanLaws.{lowest_is}
-use Rattle.grid.proofs.ColumnLaws.{lowest_some}
+use Rattle.grid.proofs.ScanLaws.{low_hit, low_some}
 
 module _ (ws : List ℕ) (b m : ℕ) (rs : List ℕ) where
   both_in : (c y : ℕ) → y / 64 ≡ c → digit m c ≡ 1 → both (row_of ws b m) (bit_at rs) y ≡ digit (bit_and (get_or ws (b + c) 0) (get_or rs c 0)) (y % 64)
@@ -43,16 +41,16 @@ module _ (ws : List ℕ) (b m : ℕ) (rs : List ℕ) where
       v = bit_and (get_or ws (b + c) 0) (get_or rs c 0)
 
       k : ℕ
-      k = count_trailing_zeros 64 v
+      k = low v
 
       small : v < 2 ^ 64
       small = lt_of_le_of_lt (and_le_l (get_or ws (b + c) 0) (get_or rs c 0)) f
 
       inside : k < 64
-      inside = lowest_some v k small n (lowest_is v small)
+      inside = low_some v small n
 
       hit : both (row_of ws b m) (bit_at rs) (c * 64 + k) ≡ 1
       hit =
           let q : (c * 64 + k) / 64 ≡ c = omega (arith, inside) in
           let r : (c * 64 + k) % 64 ≡ k = omega (arith, inside) in
-          both_in c (c * 64 + k) q d ∙ ap (digit v) r ∙ (lowest_is v small).hit inside
+          both_in c (c * 64 + k) q d ∙ ap (digit v) r ∙ low_hit v inside

@@ -1,10 +1,9 @@
 -- Laws of the product by rows: the middle records gathered in turn, and a row replaced.
---   most_next           the largest of values over a gap
 --   second_bit          a cell of the second relation is 0 or 1
 --   Gathered n w x ws ms z ws' ms'
 --                       the rows of the middle records of x below z are merged into the spare row
---   gathered_none, lowest_kept, gathered_more, gathered_all
---                       none yet; the next middle record, found in the words as they are; its row merged in; all
+--   gathered_none, gathered_gap, gathered_more, gathered_all
+--                       none yet; records that are no middle records; the row of one merged in; all
 --   row_replaced        the spare row stored in place of row x
 --   composed n w ws ms  the cells of the product, row by row
 --   compose_more, compose_skip
@@ -15,7 +14,6 @@ use mathlib.Core.Path.{◌≡◌, refl, sym, ap, ap₂, ◌∙◌, fun_ext}
 use mathlib.Core.List.{List}
 use Prim.Native.Nat.{ℕ, zero, suc, ◌+◌, ◌-◌, ◌*◌, ◌/◌, ◌≤◌, ◌<◌, min, max}
 use native.Mathlib.Nat.{add-zero, add-suc}
-use native.Mathlib.Numerals.{add-one}
 use native.Mathlib.Decide.{dec_lt}
 use native.Mathlib.Omega.{arith}
 use lib.ListN.{length, get_or, set}
@@ -26,11 +24,12 @@ use Rattle.k2.specs.PairSets.{Cells, most, serves, product}
 use Rattle.k2.specs.PairSetLaws.{most_same, most_none}
 use Rattle.bits.specs.BitSets.{Gap}
 use Rattle.grid.specs.Grid.{row_of, first_rows, second_rows, within}
-use Rattle.grid.specs.Steps.{Lowest, linked, Merged, Replaced}
-use Rattle.grid.proofs.RowLaws.{row_same, row_empty, merged_none, merged_more}
+use Rattle.grid.specs.Steps.{cut_row, linked, Merged, Replaced}
+use Rattle.grid.proofs.RowLaws.{row_same, row_empty, merged_none, merged_same, merged_more}
+use Rattle.grid.proofs.ColumnLaws.{uncut_one, uncut_gap}
 use Rattle.grid.specs.GridLaws.{row_bit}
 use Rattle.grid.specs.GridLaws.{within_in, within_row, within_column}
-use Rattle.grid.proofs.RelationLaws.{rows_apart, Through, through_row, second_row, through_more, through_keep}
+use Rattle.grid.proofs.RelationLaws.{rows_apart, second_at, Through, through_row, second_row, through_more, through_keep}
 use Rattle.grid.proofs.SearchLaws.{empty_row}
 
 -- ---- the largest of numbers
@@ -43,9 +42,6 @@ most_far f p (suc d) g =
 
 most_gap : (f : ℕ → ℕ) (p q : ℕ) → p ≤ q → Gap f p q → most q f ≡ most p f
 most_gap f p q l g = let e : q ≡ p + (q - p) = omega arith in ap (λ (k : ℕ). most k f) e ∙ most_far f p (q - p) (λ k a b. g k a (omega arith))
-
-pub most_next : (f : ℕ → ℕ) (z q : ℕ) → z < q → Gap f (z + 1) q → most q f ≡ max (most z f) (f z)
-most_next f z q l g = most_gap f (z + 1) q (omega arith) g ∙ ap (λ (k : ℕ). most k f) (add-one z) ∙ unfold most in refl
 
 pub second_bit : (n w : ℕ) (ws ms : List ℕ) (x y : ℕ) → second_rows n w ws ms x y < 2
 unfolding second_rows
@@ -60,56 +56,50 @@ module _ (n w x : ℕ) (ws ms : List ℕ) (nl : n ≤ w * 64) (xl : x < n) where
   gap_linked : (lo r y : ℕ) → Gap (first_rows w ws ms x) lo r → Gap (linked n w ws ms x y) lo r
   gap_linked lo r y g k a b = ap (λ (v : ℕ). min v (second_rows n w ws ms k y)) (g k a b) ∙ omega arith
 
-  pub gathered_none : (r : ℕ) → Lowest (row_of ws (x * w) (get_or ms x 0)) 0 (w * 64) r → Gathered n w x ws ms r ws ms
-  gathered_none r L =
-      merged_none w (n + n) (n * w + n * w) _ ws ms
-      (λ y. most_none (min r n) (linked n w ws ms x y) (λ z l. gap_linked 0 r y (unfold first_rows in L.gap) z (omega arith) (omega arith)))
-
-  -- the next column, found in the words as they are
-  pub lowest_kept : (ws' : List ℕ) → ((k : ℕ) → k < n * w → get_or ws' k 0 ≡ get_or ws k 0) → (lo r : ℕ) → r ≤ w * 64
-      → Lowest (row_of ws' (x * w) (get_or ms x 0)) lo (w * 64) r → Lowest (first_rows w ws ms x) lo (w * 64) r
-  unfolding first_rows
-  lowest_kept ws' e lo r h L = record {
-    low = L.low;
-    gap = λ k a b. sym (same k (omega arith)) ∙ L.gap k a b;
-    hit = λ l. sym (same r l) ∙ L.hit l;
-  }
-    where
-      same : (y : ℕ) → y < w * 64 → row_of ws' (x * w) (get_or ms x 0) y ≡ row_of ws (x * w) (get_or ms x 0) y
-      same y l = row_same ws' ws (x * w) (get_or ms x 0) (get_or ms x 0) y refl (e (x * w + y / 64) (omega (arith, rows_apart x n w xl)))
+  pub gathered_none : Gathered n w x ws ms 0 ws ms
+  gathered_none =
+      let z : min 0 n ≡ 0 = omega arith in
+      merged_none w (n + n) (n * w + n * w) _ ws ms (λ y. rw z (unfold most in refl))
 
   module _ (z : ℕ) (ws' ms' : List ℕ) (M : Gathered n w x ws ms z ws' ms') where
-    gathered_second : (k y : ℕ) → k < n → y < w * 64 → row_of ws' (n * w + k * w) (get_or ms' (n + k) 0) y ≡ second_rows n w ws ms k y
-    unfolding second_rows
-    gathered_second k y kl l =
-        row_same ws' ws (n * w + k * w) (get_or ms' (n + k) 0) (get_or ms (n + k) 0) y
+    gathered_second : (k y : ℕ) → k < n → y < w * 64 → first_rows w ws' ms' (n + k) y ≡ second_rows n w ws ms k y
+    gathered_second k y kl l = second_at n w ws' ms' k y ∙ unfold second_rows in
+        (row_same ws' ws (n * w + k * w) (get_or ms' (n + k) 0) (get_or ms (n + k) 0) y
         (M.masks (n + k) (λ e. absurd (omega arith)))
-        (M.below (n * w + k * w + y / 64) (omega (arith, rows_apart k n w kl)))
+        (M.below (n * w + k * w + y / 64) (omega (arith, rows_apart k n w kl))))
 
-    -- record z, and those after it that are no columns
-    pub gathered_more : (r : ℕ) (ws'' ms'' : List ℕ) → z < n → first_rows w ws ms x z ≡ 1 → Lowest (first_rows w ws ms x) (z + 1) (w * 64) r
-        → Merged w (n + n) (n * w + n * w) (row_of ws' (n * w + z * w) (get_or ms' (n + z) 0)) ws' ms' ws'' ms'' → Gathered n w x ws ms r ws'' ms''
-    gathered_more r ws'' ms'' zl e L N = merged_more M N (λ y. most (min r n) (linked n w ws ms x y)) here
+    -- over records that are no columns
+    pub gathered_gap : (r : ℕ) → z ≤ r → Gap (cut_row n (first_rows w ws ms x)) z r → Gathered n w x ws ms r ws' ms'
+    gathered_gap r l g =
+        merged_same M (λ y. most (min r n) (linked n w ws ms x y))
+        (λ y h. most_gap (linked n w ws ms x y) (min z n) (min r n) (omega arith) (gap_linked (min z n) (min r n) y (uncut_gap n (first_rows w ws ms x) z r g)))
+
+    -- record z, a column
+    pub gathered_more : (ws'' ms'' : List ℕ) → cut_row n (first_rows w ws ms x) z ≡ 1
+        → Merged w (n + n) (n * w + n * w) (first_rows w ws' ms' (n + z)) ws' ms' ws'' ms'' → Gathered n w x ws ms (z + 1) ws'' ms''
+    gathered_more ws'' ms'' e N = merged_more M N (λ y. most (min (z + 1) n) (linked n w ws ms x y)) here
       where
-        here : (y : ℕ) → y < w * 64 → most (min r n) (linked n w ws ms x y)
-            ≡ max (most (min z n) (linked n w ws ms x y)) (row_of ws' (n * w + z * w) (get_or ms' (n + z) 0) y)
+        u : (z < n) × (first_rows w ws ms x z ≡ 1)
+        u = uncut_one n (first_rows w ws ms x) z e
+
+        here : (y : ℕ) → y < w * 64 → most (min (z + 1) n) (linked n w ws ms x y)
+            ≡ max (most (min z n) (linked n w ws ms x y)) (first_rows w ws' ms' (n + z) y)
         here y l =
-            let s : min z n ≡ z = omega arith in
-            let g : Gap (linked n w ws ms x y) (z + 1) (min r n) = λ k a b. gap_linked (z + 1) r y L.gap k a (omega arith) in
-            most_next (linked n w ws ms x y) z (min r n) (omega (arith, L.low)) g
-            ∙ ap₂ max (ap (λ (k : ℕ). most k (linked n w ws ms x y)) (sym s))
-            (ap (λ (v : ℕ). min v (second_rows n w ws ms z y)) e ∙ omega (arith, second_bit n w ws ms z y) ∙ sym (gathered_second z y zl l))
+            let s : min z n ≡ z = omega (arith, u.0) in
+            let t : min (z + 1) n ≡ suc z = omega (arith, u.0) in
+            rw (s, t) (unfold most in refl ∙ ap (max (most z (linked n w ws ms x y)))
+            (ap (λ (v : ℕ). min v (second_rows n w ws ms z y)) u.1 ∙ omega (arith, second_bit n w ws ms z y) ∙ sym (gathered_second z y u.0 l)))
 
   pub gathered_all : (z : ℕ) (ws' ms' : List ℕ) → n ≤ z → Gathered n w x ws ms z ws' ms'
       → Merged w (n + n) (n * w + n * w) (λ y. most n (linked n w ws ms x y)) ws ms ws' ms'
   gathered_all z ws' ms' h M = let s : min z n ≡ n = omega arith in rw s at M
 
   -- the row stored in place of row x
-  pub row_replaced : (b : ℕ) (ws' ms' ws'' ms'' : List ℕ) → b ≡ x * w → n + n < length ms → length ms' ≡ length ms
+  pub row_replaced : (ws' ms' ws'' ms'' : List ℕ) → n + n < length ms → length ms' ≡ length ms
       → Merged w (n + n) (n * w + n * w) (λ y. most n (linked n w ws (set ms (n + n) 0) x y)) ws (set ms (n + n) 0) ws' ms'
-      → Merged w x b (row_of ws' (n * w + n * w) (get_or (set ms' x 0) (n + n) 0)) ws' (set ms' x 0) ws'' ms''
-      → Replaced n w x b (λ y. most n (linked n w ws ms x y)) ws ms ws'' ms''
-  row_replaced b ws' ms' ws'' ms'' at tl ml P M = record {
+      → Merged w x (x * w) (first_rows w ws' (set ms' x 0) (n + n)) ws' (set ms' x 0) ws'' ms''
+      → Replaced n w x (x * w) (λ y. most n (linked n w ws ms x y)) ws ms ws'' ms''
+  row_replaced ws' ms' ws'' ms'' tl ml P M = record {
     row = λ y l. M.row y l ∙ ap₂ max (old y) (new y l) ∙ omega arith;
     below = λ k h. M.below k h ∙ P.below k (omega (arith, end));
     above = λ k h l. M.above k h ∙ P.below k l;
@@ -120,8 +110,8 @@ module _ (n w x : ℕ) (ws ms : List ℕ) (nl : n ≤ w * 64) (xl : x < n) where
       end : x * w + w ≤ n * w
       end = rows_apart x n w xl
 
-      old : (y : ℕ) → row_of ws' b (get_or (set ms' x 0) x 0) y ≡ 0
-      old y = row_empty ws' b _ y (ap (λ (v : ℕ). digit v (y / 64)) (get_or-set_same ms' x 0 0 (omega arith)) ∙ digit_none (y / 64))
+      old : (y : ℕ) → row_of ws' (x * w) (get_or (set ms' x 0) x 0) y ≡ 0
+      old y = row_empty ws' (x * w) _ y (ap (λ (v : ℕ). digit v (y / 64)) (get_or-set_same ms' x 0 0 (omega arith)) ∙ digit_none (y / 64))
 
       -- the mask after the two relations is none of theirs
       first-same : (y : ℕ) → first_rows w ws (set ms (n + n) 0) x y ≡ first_rows w ws ms x y
@@ -131,9 +121,10 @@ module _ (n w x : ℕ) (ws ms : List ℕ) (nl : n ≤ w * 64) (xl : x < n) where
       second_same z h y =
           unfold second_rows in (ap (λ (v : ℕ). row_of ws (n * w + z * w) v y) (get_or-set_other ms (n + n) (n + z) 0 0 (λ e. absurd (omega arith))))
 
-      new : (y : ℕ) → y < w * 64 → row_of ws' (n * w + n * w) (get_or (set ms' x 0) (n + n) 0) y ≡ most n (linked n w ws ms x y)
+      new : (y : ℕ) → y < w * 64 → first_rows w ws' (set ms' x 0) (n + n) y ≡ most n (linked n w ws ms x y)
       new y l =
-          ap (λ (v : ℕ). row_of ws' (n * w + n * w) v y) (get_or-set_other ms' x (n + n) 0 0 (λ e. absurd (omega arith))) ∙ P.row y l
+          second_at n w ws' (set ms' x 0) n y ∙ unfold second_rows in
+          (ap (λ (v : ℕ). row_of ws' (n * w + n * w) v y) (get_or-set_other ms' x (n + n) 0 0 (λ e. absurd (omega arith)))) ∙ P.row y l
           ∙ ap₂ max
           (row_empty ws (n * w + n * w) _ y (ap (λ (v : ℕ). digit v (y / 64)) (get_or-set_same ms (n + n) 0 0 tl) ∙ digit_none (y / 64)))
           (most_same n (linked n w ws (set ms (n + n) 0) x y) (linked n w ws ms x y) (λ z h. ap₂ min (first-same z) (second_same z h y)))
@@ -143,18 +134,17 @@ module _ (n w x : ℕ) (ws ms : List ℕ) (nl : n ≤ w * 64) (xl : x < n) where
 abbrev pub composed : (n w : ℕ) → List ℕ → List ℕ → Cells
 composed n w ws ms x y = most n (linked n w ws ms x y)
 
-module _ (n w i b : ℕ) (ws ms ws' ms' : List ℕ) (nl : n ≤ w * 64) (il : i < n) (at : b ≡ i * w) (T : Through n w i (composed n w ws ms) ws ms ws' ms') where
-  pub compose_more : (ws'' ms'' : List ℕ) → Replaced n w i b (λ y. most n (linked n w ws' ms' i y)) ws' ms' ws'' ms''
+module _ (n w i : ℕ) (ws ms ws' ms' : List ℕ) (nl : n ≤ w * 64) (il : i < n) (T : Through n w i (composed n w ws ms) ws ms ws' ms') where
+  pub compose_more : (ws'' ms'' : List ℕ) → Replaced n w i (i * w) (λ y. most n (linked n w ws' ms' i y)) ws' ms' ws'' ms''
       → Through n w (i + 1) (composed n w ws ms) ws ms ws'' ms''
   compose_more ws'' ms'' R =
-      through_more n w i b _ ws ms ws' ms' il at T ws'' ms'' _ R
+      through_more n w i _ ws ms ws' ms' il T ws'' ms'' _ R
       (λ y l. most_same n (linked n w ws' ms' i y) (linked n w ws ms i y)
-      (λ z h. ap₂ min (unfold first_rows in
-      (rw (← at) refl) ∙ through_row n w i b _ ws ms ws' ms' il at T z (omega arith)) (second_row n w i b _ ws ms ws' ms' il at T z h y l)))
+      (λ z h. ap₂ min (unfold first_rows in (through_row n w i _ ws ms ws' ms' il T z (omega arith))) (second_row n w i _ ws ms ws' ms' il T z h y l)))
 
   pub compose_skip : get_or ms' i 0 ≡ 0 → Through n w (i + 1) (composed n w ws ms) ws ms ws' ms'
   compose_skip e =
-      through_keep n w i b _ ws ms ws' ms' il at T
+      through_keep n w i _ ws ms ws' ms' il T
       (λ y l. empty y ∙ sym (most_none n (linked n w ws ms i y) (λ z h. ap (λ (v : ℕ). min v (second_rows n w ws ms z y)) (empty z) ∙ omega arith)))
     where
       empty : (y : ℕ) → first_rows w ws ms i y ≡ 0

@@ -13,8 +13,8 @@
 --   joined-more, joined_all
 --                      a word more, and all of them: the row is merged in
 --   put_is             one word put in is a row merged in
---   merged_none, merged_more
---                      merging nothing, one row after another
+--   merged_none, merged_same, merged_more
+--                      merging nothing, an equal row, one row after another
 --   one_mask           `1 << c` in a mask is a power of two
 -- Assumes nothing.
 use mathlib.Core.Path.{◌≡◌, refl, sym, ap, ap₂, ◌∙◌}
@@ -233,6 +233,15 @@ merged_none w t b src ws ms z = record {
 }
 
 module _ {w t b : ℕ} {s : ℕ → ℕ} {ws ms ws' ms' : List ℕ} (M : Merged w t b s ws ms ws' ms') where
+  pub merged_same : (g : ℕ → ℕ) → ((y : ℕ) → y < w * 64 → g y ≡ s y) → Merged w t b g ws ms ws' ms'
+  merged_same g e = record {
+    row = λ y h. M.row y h ∙ ap (max (row_of ws b (get_or ms t 0) y)) (sym (e y h));
+    below = M.below;
+    above = M.above;
+    masks = M.masks;
+    clean = M.clean;
+  }
+
   pub merged_more : {r : ℕ → ℕ} {ws'' ms'' : List ℕ} → Merged w t b r ws' ms' ws'' ms'' → (g : ℕ → ℕ) → ((y : ℕ) → y < w * 64 → g y ≡ max (s y) (r y))
       → Merged w t b g ws ms ws'' ms''
   merged_more {r} {ws''} {ms''} N g e = record {

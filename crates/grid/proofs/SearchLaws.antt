@@ -22,7 +22,6 @@
 --   searching_none, searching_more, left_less
 --                         before the first; a record more; one less is left
 --   row_done, row_back    the row is closed: all that is found is seen, or a whole row leads back
---   rows_other            two rows have no word in common
 -- Assumes nothing.
 use mathlib.Core.Path.{◌≡◌, refl, sym, ap, ap₂, ◌∙◌}
 use mathlib.Core.Logic.{◌⊎◌, inl, inr, ⊎_elim}
@@ -434,11 +433,3 @@ row_done n w x z c v ws ms ws' ms' nl h F T = record {
   row = λ a A H cx y l. search_done n a A x (first_rows w ws' ms' x) v (first_bit w ws' ms' x) (T.search a A H cx) (F.all (T.past H.past) h) y l;
   clean = T.clean;
 }
-
--- two rows have no word in common
-pub rows_other : (x z w : ℕ) → (x ≡ z → ⊥) → (x * w + w ≤ z * w) ⊎ (z * w + w ≤ x * w)
-rows_other x z w n = go (dec_lt x z)
-  where
-    go : Dec (x < z) → (x * w + w ≤ z * w) ⊎ (z * w + w ≤ x * w)
-    go (yes h) = inl (rows_apart x z w h)
-    go (no h) = inr (rows_apart z x w (omega (arith, n, h)))

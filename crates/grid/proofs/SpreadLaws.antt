@@ -6,7 +6,7 @@
 --   laid_none, laid_more, laid_all
 --                  the rows: none, one more, all of them
 -- Assumes nothing.
-use mathlib.Core.Path.{◌≡◌, refl, sym, ap, ap₂, ◌∙◌, fun_ext}
+use mathlib.Core.Path.{◌≡◌, refl, sym, ap, ◌∙◌, fun_ext}
 use mathlib.Core.List.{List}
 use Prim.Native.Nat.{ℕ, ◌+◌, ◌*◌, ◌/◌, ◌%◌, ◌≤◌, ◌<◌}
 use native.Mathlib.Decide.{dec_lt, ℕ_discrete}
@@ -24,8 +24,7 @@ use Rattle.rows.specs.RowSets.{no_pairs}
 use Rattle.grid.specs.Grid.{row_of, first_rows, first}
 use Rattle.grid.specs.GridLaws.{within_in, within_row, within_column}
 use Rattle.grid.specs.Steps.{cut_row, Spread}
-use Rattle.grid.proofs.RowLaws.{row_in}
-use Rattle.grid.proofs.ListingLaws.{cut_out, cut_gap}
+use Rattle.grid.proofs.ListingLaws.{cut_out, cut_gap, cut_at}
 
 -- ---- a row
 module _ (n w b m x : ℕ) (ws : List ℕ) where
@@ -38,14 +37,6 @@ module _ (n w b m x : ℕ) (ws : List ℕ) where
     empty = λ y a l. z y l;
     others = λ p q. refl;
   }
-
-  -- the bits of a word that is in the mask
-  cut_at : (c v : ℕ) → digit m c ≡ 1 → ((j : ℕ) → j < 64 → digit v j ≡ pick (ltb (c * 64 + j) n) (digit (get_or ws (b + c) 0) j) 0)
-      → (y : ℕ) → y / 64 ≡ c → digit v (y % 64) ≡ cut_row n (row_of ws b m) y
-  unfolding cut_row
-  cut_at c v d e y q =
-      let s : c * 64 + y % 64 ≡ y = omega arith in
-      e (y % 64) (omega arith) ∙ ap₂ (λ (k u : ℕ). pick (ltb k n) u 0) s (sym (row_in ws b m c y q d))
 
   pub spread_more : (c k v : ℕ) (rs rs' : List ℕ) → length rs' ≡ 16384 → x < 1024 → c < 16 → digit m c ≡ 1
       → ((j : ℕ) → j < 64 → digit v j ≡ pick (ltb (c * 64 + j) n) (digit (get_or ws (b + c) 0) j) 0)
@@ -62,7 +53,9 @@ module _ (n w b m x : ℕ) (ws : List ℕ) where
       go : (y : ℕ) → y < k * 64 → y < 1024 → Dec (y / 64 ≡ c) → Dec (y < c * 64) → bit_at (set rs' (x * 16 + c) v) (x * 1024 + y) ≡ g y
       go y a l (yes q) t =
           let r : (x * 1024 + y) % 64 ≡ y % 64 = omega arith in
-          bit_set rs' (x * 16 + c) v (x * 1024 + y) (omega arith) (omega arith) ∙ ap (digit v) r ∙ cut_at c v d e y q
+          let s : c * 64 + y % 64 ≡ y = omega arith in
+          bit_set rs' (x * 16 + c) v (x * 1024 + y) (omega arith) (omega arith) ∙ ap (digit v) r
+          ∙ cut_at n w b m x ws c v d e (y % 64) (omega arith) ∙ ap g s
       go y a l (no q) (yes t) = off y l q ∙ S.written y t l
       go y a l (no q) (no t) =
           let z : (y / 64 ≡ c → ⊥) = q in

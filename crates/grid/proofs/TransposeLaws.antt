@@ -1,8 +1,10 @@
 -- Laws of transposition: the pairs of one row after another put into the second relation exchanged, and the second taken over.
 --   merged_part          a row merged in the part of the work that begins with the second relation
 --   only_gap, only_more  a row's pairs below a column: over columns in which it has nothing, and one column more
---   turned_none, turned_more, turned_all
---                        a row's pairs put in exchanged: none, one column more, all below n
+--   TurnedTo n w x ws ms y ws' ms'
+--                        the pairs of row x in the columns below y, and n, are put in exchanged
+--   turned_none, turned_gap, turned_more, turned_all
+--                        so for none; over columns that the row lacks; one column more; all below n
 --   rows_below x a        the pairs of the rows of a below x
 --   Turning n w x ws ms ws' ms'
 --                        the first relation is as it was, and the second has its rows below x, exchanged
@@ -13,7 +15,7 @@
 --                        the second taken over, row by row
 --   second_zero          a mask more of the second relation is empty
 -- Assumes nothing.
-use mathlib.Core.Path.{◌≡◌, refl, sym, ap, ap₂, ◌∙◌, fun_ext}
+use mathlib.Core.Path.{◌≡◌, refl, sym, ap, ap₂, subst, ◌∙◌, fun_ext}
 use mathlib.Core.List.{List}
 use Prim.Native.Nat.{ℕ, ◌+◌, ◌*◌, ◌/◌, ◌%◌, ◌^◌, ◌≤◌, ◌<◌, min, max}
 use native.Mathlib.Decide.{dec_lt, ℕ_discrete}
@@ -31,9 +33,10 @@ use Rattle.rows.specs.RowLaws.{union_none}
 use Rattle.bits.specs.BitSets.{Gap}
 use Rattle.grid.specs.Grid.{row_of, first_rows, second_rows, within, first, second}
 use Rattle.grid.specs.GridLaws.{within_in, within_row, within_column, within_same, second_part}
-use Rattle.grid.specs.Steps.{Lowest, word_at, one_pair, only_row, held, Merged, Replaced, Turned}
+use Rattle.grid.specs.Steps.{cut_row, word_at, one_pair, only_row, held, Merged, Replaced, Turned}
 use Rattle.grid.proofs.RowLaws.{row_same, row_empty}
-use Rattle.grid.proofs.RelationLaws.{rows_apart, Through, through_more, second_row, within_union}
+use Rattle.grid.proofs.ColumnLaws.{uncut_one, uncut_gap}
+use Rattle.grid.proofs.RelationLaws.{rows_apart, second_at, Through, through_more, second_row, within_union}
 use Rattle.grid.proofs.PairLaws.{pair_put, one_at, one_off, none_left, union-empty, put_more}
 
 zero_left : (v : ℕ) → max 0 v ≡ v
@@ -110,48 +113,50 @@ only_more x y a e = fun_ext (λ v. fun_ext (λ u. go u v (ℕ_discrete u x) (ℕ
 
 -- ---- turning a row
 module _ (n w x : ℕ) (ws ms : List ℕ) where
-  pub turned_none : (p : ℕ) → Gap (first_rows w ws ms x) 0 p → Turned n w (only_row x p (first_rows w ws ms)) ws ms ws ms
-  turned_none p g = record {
+  abbrev F : Cells
+  F = first_rows w ws ms
+
+  abbrev pub TurnedTo : ℕ → List ℕ → List ℕ → Type 0
+  TurnedTo y ws' ms' = Turned n w (only_row x (min y n) (first_rows w ws ms)) ws ms ws' ms'
+
+  pub turned_none : TurnedTo 0 ws ms
+  turned_none = record {
     words = λ k h. refl;
     masks = λ k h. refl;
-    second = union-empty n (second n w ws ms) (transpose (only_row x p (first_rows w ws ms))) (λ u v. unfold transpose in (nothing v u));
+    second = union-empty n (second n w ws ms) (transpose (only_row x (min 0 n) F)) (λ u v. unfold transpose in (only_past x (min 0 n) F v u (omega arith)));
   }
-    where
-      nothing : (u v : ℕ) → only_row x p (first_rows w ws ms) u v ≡ 0
-      nothing u v = ap (λ (a : Cells). a u v) (sym (only_gap x 0 p (first_rows w ws ms) (omega arith) g)) ∙ only_past x 0 (first_rows w ws ms) u v (omega arith)
 
-  module _ (y r : ℕ) (ws' ms' ws'' ms'' : List ℕ) (nl : n ≤ w * 64) (xl : x < n) (yl : y < n) (one : first_rows w ws ms x y ≡ 1) where
-    pub turned_more : Lowest (first_rows w ws ms x) (y + 1) (w * 64) r → Turned n w (only_row x y (first_rows w ws ms)) ws ms ws' ms'
-        → Merged w (n + y) (n * w + y * w) (word_at (x / 64) (2 ^ (x % 64))) ws' ms' ws'' ms'' → Turned n w (only_row x r (first_rows w ws ms)) ws ms ws'' ms''
-    turned_more L T M = record {
+  module _ (y : ℕ) (ws' ms' : List ℕ) (T : TurnedTo y ws' ms') where
+    -- columns that the row lacks
+    pub turned_gap : (r : ℕ) → y ≤ r → Gap (cut_row n (first_rows w ws ms x)) y r → TurnedTo r ws' ms'
+    turned_gap r l g = subst (λ (a : Cells). Turned n w a ws ms ws' ms') (only_gap x (min y n) (min r n) F (omega arith) (uncut_gap n (F x) y r g)) T
+
+    -- column y, which it has
+    pub turned_more : (ws'' ms'' : List ℕ) → n ≤ w * 64 → x < n → cut_row n (first_rows w ws ms x) y ≡ 1
+        → Merged w (n + y) (n * w + y * w) (word_at (x / 64) (2 ^ (x % 64))) ws' ms' ws'' ms'' → TurnedTo (y + 1) ws'' ms''
+    turned_more ws'' ms'' nl xl e M = record {
       words = λ k h. M.below k (omega arith) ∙ T.words k h;
       masks = λ k h. M.masks k (λ e. absurd (omega arith)) ∙ T.masks k h;
       second =
           sym (second_part n w ws'' ms'')
-          ∙ pair_put n w y x (drop (n * w) ws') (drop n ms') (drop (n * w) ws'') (drop n ms'') nl yl xl (merged_part n w y (y * w) _ ws' ms' ws'' ms'' M)
+          ∙ pair_put n w y x (drop (n * w) ws') (drop n ms') (drop (n * w) ws'') (drop n ms'') nl u.0 xl (merged_part n w y (y * w) _ ws' ms' ws'' ms'' M)
           ∙ ap (λ (a : Cells). union a (within n (one_pair y x))) (second_part n w ws' ms' ∙ T.second)
-          ∙ put_more n (second n w ws ms) (transpose (only_row x y (first_rows w ws ms))) (one_pair y x)
-          ∙ ap (λ (a : Cells). union (second n w ws ms) (within n a)) (only_more x y (first_rows w ws ms) one)
-          ∙ ap (λ (a : Cells). union (second n w ws ms) (within n (transpose a))) (only_gap x (y + 1) r (first_rows w ws ms) L.low L.gap);
+          ∙ put_more n (second n w ws ms) (transpose (only_row x (min y n) F)) (one_pair y x)
+          ∙ ap (λ (a : Cells). union (second n w ws ms) (within n a)) more;
     }
+      where
+        u : (y < n) × (first_rows w ws ms x y ≡ 1)
+        u = uncut_one n (first_rows w ws ms x) y e
+
+        more : union (transpose (only_row x (min y n) F)) (one_pair y x) ≡ transpose (only_row x (min (y + 1) n) F)
+        more =
+            let s : min y n ≡ y = omega (arith, u.0) in
+            let t : min (y + 1) n ≡ y + 1 = omega (arith, u.0) in
+            rw (s, t) (only_more x y F u.1)
 
   -- all columns below n
-  pub turned_all : (y : ℕ) (ws' ms' : List ℕ) → n ≤ y → Turned n w (only_row x y (first_rows w ws ms)) ws ms ws' ms'
-      → Turned n w (only_row x n (first_rows w ws ms)) ws ms ws' ms'
-  turned_all y ws' ms' l T = record {
-    words = T.words;
-    masks = T.masks;
-    second =
-        T.second ∙ ap (union (second n w ws ms))
-        (within_same n (transpose (only_row x y (first_rows w ws ms))) (transpose (only_row x n (first_rows w ws ms))) same);
-  }
-    where
-      same : (u v : ℕ) → u < n → v < n → transpose (only_row x y (first_rows w ws ms)) u v ≡ transpose (only_row x n (first_rows w ws ms)) u v
-      same u v a b = unfold transpose in (go (ℕ_discrete v x))
-        where
-          go : Dec (v ≡ x) → only_row x y (first_rows w ws ms) v u ≡ only_row x n (first_rows w ws ms) v u
-          go (yes e) = rw e (only_in x y (first_rows w ws ms) u (omega arith) ∙ sym (only_in x n (first_rows w ws ms) u a))
-          go (no e) = only_off x y (first_rows w ws ms) v u e ∙ sym (only_off x n (first_rows w ws ms) v u e)
+  pub turned_all : (y : ℕ) (ws' ms' : List ℕ) → n ≤ y → TurnedTo y ws' ms' → Turned n w (only_row x n (first_rows w ws ms)) ws ms ws' ms'
+  turned_all y ws' ms' l T = let s : min y n ≡ n = omega arith in rw s at T
 
 -- ---- row after row
 unfoldable pub rows_below : ℕ → Cells → Cells
@@ -235,28 +240,28 @@ first-same n w ws ms ms' e =
     within_same n (first_rows w ws ms') (first_rows w ws ms) (λ x y a b. unfold first_rows in (ap (λ (m : ℕ). row_of ws (x * w) m y) (e x a)))
 
 -- ---- the second taken over
-pub taken_row : (n w x b : ℕ) (ws ms ws' ms' : List ℕ) → x < n → b ≡ x * w → x < length ms
-    → Merged w x b (row_of ws (n * w + b) (get_or (set ms x 0) (n + x) 0)) ws (set ms x 0) ws' ms' → Replaced n w x b (second_rows n w ws ms x) ws ms ws' ms'
-taken_row n w x b ws ms ws' ms' xl at tl M = record {
+pub taken_row : (n w x : ℕ) (ws ms ws' ms' : List ℕ) → x < n → x < length ms
+    → Merged w x (x * w) (first_rows w ws (set ms x 0) (n + x)) ws (set ms x 0) ws' ms' → Replaced n w x (x * w) (second_rows n w ws ms x) ws ms ws' ms'
+taken_row n w x ws ms ws' ms' xl tl M = record {
   row = λ y l. M.row y l ∙ ap₂ max (old y) (new y) ∙ omega arith;
   below = M.below;
   above = λ k h l. M.above k h;
   masks = λ k h l. M.masks k h ∙ get_or-set_other ms x k 0 0 h;
 }
   where
-    old : (y : ℕ) → row_of ws b (get_or (set ms x 0) x 0) y ≡ 0
-    old y = row_empty ws b _ y (ap (λ (v : ℕ). digit v (y / 64)) (get_or-set_same ms x 0 0 tl) ∙ digit_none (y / 64))
+    old : (y : ℕ) → row_of ws (x * w) (get_or (set ms x 0) x 0) y ≡ 0
+    old y = row_empty ws (x * w) _ y (ap (λ (v : ℕ). digit v (y / 64)) (get_or-set_same ms x 0 0 tl) ∙ digit_none (y / 64))
 
-    new : (y : ℕ) → row_of ws (n * w + b) (get_or (set ms x 0) (n + x) 0) y ≡ second_rows n w ws ms x y
+    new : (y : ℕ) → first_rows w ws (set ms x 0) (n + x) y ≡ second_rows n w ws ms x y
     new y =
-        unfold second_rows in
-        (ap₂ (λ (m k : ℕ). row_of ws (n * w + k) m y) (get_or-set_other ms x (n + x) 0 0 (λ e. absurd (omega arith))) at)
+        second_at n w ws (set ms x 0) x y
+        ∙ unfold second_rows in (ap (λ (m : ℕ). row_of ws (n * w + x * w) m y) (get_or-set_other ms x (n + x) 0 0 (λ e. absurd (omega arith))))
 
-pub taken_more : (n w i b : ℕ) (ws ms ws' ms' ws'' ms'' : List ℕ) → i < n → b ≡ i * w → Through n w i (second_rows n w ws ms) ws ms ws' ms'
-    → Replaced n w i b (second_rows n w ws' ms' i) ws' ms' ws'' ms'' → Through n w (i + 1) (second_rows n w ws ms) ws ms ws'' ms''
-taken_more n w i b ws ms ws' ms' ws'' ms'' il at T R =
-    through_more n w i b (second_rows n w ws ms) ws ms ws' ms' il at T ws'' ms'' (second_rows n w ws' ms' i) R
-    (λ y l. second_row n w i b (second_rows n w ws ms) ws ms ws' ms' il at T i il y l)
+pub taken_more : (n w i : ℕ) (ws ms ws' ms' ws'' ms'' : List ℕ) → i < n → Through n w i (second_rows n w ws ms) ws ms ws' ms'
+    → Replaced n w i (i * w) (second_rows n w ws' ms' i) ws' ms' ws'' ms'' → Through n w (i + 1) (second_rows n w ws ms) ws ms ws'' ms''
+taken_more n w i ws ms ws' ms' ws'' ms'' il T R =
+    through_more n w i (second_rows n w ws ms) ws ms ws' ms' il T ws'' ms'' (second_rows n w ws' ms' i) R
+    (λ y l. second_row n w i (second_rows n w ws ms) ws ms ws' ms' il T i il y l)
 
 -- a mask more of the second relation is empty
 pub second_zero : (ms : List ℕ) (n x : ℕ) → n + x < length ms

@@ -1,3 +1,4 @@
+pub mod Closings
 pub mod Grid
 pub mod GridLaws
 pub mod Steps

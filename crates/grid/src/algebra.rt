@@ -5,7 +5,8 @@ ghost use Rattle.k2.specs.PairSets.{union, transpose, product, most};
 ghost use Rattle.grid.specs.Grid.{Space, first_rows, second_rows, first, second};
 ghost use Rattle.grid.specs.Steps.{linked, only_row, Merged, Replaced, Turned};
 
-use crate::row::{merge, next, put};
+use crate::row::{merge, put};
+use crate::words::{Ones, cut};
 
 // The second relation put into the first.
 pub fn unite(cells: &mut [u64], masks: &mut [u16], n: usize, w: usize)
@@ -13,14 +14,8 @@ pub fn unite(cells: &mut [u64], masks: &mut [u16], n: usize, w: usize)
     ensures { first n w cells.new masks.new
         ≡ union (first n w cells.old masks.old) (second n w cells.old masks.old) }
 {
-    let unit = n * w;
-    let mut x = 0;
-    let mut b = 0;
-    while x < n {
-        let source = masks[n + x];
-        merge(cells, masks, w, x, b, source, unit + b);
-        b += w;
-        x += 1;
+    for x in 0..n {
+        merge(cells, masks, w, x, n + x);
     }
 }
 
@@ -30,29 +25,27 @@ fn product_row(cells: &mut [u64], masks: &mut [u16], n: usize, w: usize, x: usiz
     ensures { Merged w (n + n) (n * w + n * w) (λ y. most n (linked n w cells.old masks.old x y))
         cells.old masks.old cells.new masks.new }
 {
-    let unit = n * w;
     let b = x * w;
     let mask = masks[x];
-    let mut z = next(cells, mask, b, w, 0);
-    while z < n {
-        let source = masks[n + z];
-        merge(cells, masks, w, n + n, unit + unit, source, unit + z * w);
-        z = next(cells, mask, b, w, z + 1);
+    for c in Ones::of(mask as u64, w) {
+        let word = cut(cells[b + c], c, n);
+        for k in Ones::of(word, 64) {
+            let z = c * 64 + k;
+            merge(cells, masks, w, n + n, n + z);
+        }
     }
 }
 
-// Row x of the first relation, at place b, replaced by that of the product.
-fn compose_row(cells: &mut [u64], masks: &mut [u16], n: usize, w: usize, x: usize, b: usize)
-    requires { Space n w (n + n + 1) (length cells.old) (length masks.old) × (x < n) × (b ≡ x * w) }
-    ensures { Replaced n w x b (λ y. most n (linked n w cells.old masks.old x y))
+// Row x of the first relation replaced by that of the product.
+fn compose_row(cells: &mut [u64], masks: &mut [u16], n: usize, w: usize, x: usize)
+    requires { Space n w (n + n + 1) (length cells.old) (length masks.old) × (x < n) }
+    ensures { Replaced n w x (x * w) (λ y. most n (linked n w cells.old masks.old x y))
         cells.old masks.old cells.new masks.new }
 {
     masks[n + n] = 0;
     product_row(cells, masks, n, w, x);
     masks[x] = 0;
-    let source = masks[n + n];
-    let unit = n * w;
-    merge(cells, masks, w, x, b, source, unit + unit);
+    merge(cells, masks, w, x, n + n);
 }
 
 // The product of the first two relations, left in the first. A row of the product depends on that row of the first alone. The row and the mask
@@ -62,15 +55,10 @@ pub fn compose(cells: &mut [u64], masks: &mut [u16], n: usize, w: usize)
     ensures { first n w cells.new masks.new
         ≡ product n (first n w cells.old masks.old) (second n w cells.old masks.old) }
 {
-    let mut x = 0;
-    let mut b = 0;
-    while x < n {
-        let mask = masks[x];
-        if mask != 0 {
-            compose_row(cells, masks, n, w, x, b);
+    for x in 0..n {
+        if masks[x] != 0 {
+            compose_row(cells, masks, n, w, x);
         }
-        b += w;
-        x += 1;
     }
 }
 
@@ -80,10 +68,8 @@ fn start_second(masks: &mut [u16], n: usize)
     ensures { ((k : ℕ) → k < n → get_or masks.new k 0 ≡ get_or masks.old k 0)
         × ((k : ℕ) → k < n → get_or masks.new (n + k) 0 ≡ 0) }
 {
-    let mut x = 0;
-    while x < n {
+    for x in 0..n {
         masks[n + x] = 0;
-        x += 1;
     }
 }
 
@@ -93,26 +79,25 @@ fn turn_row(cells: &mut [u64], masks: &mut [u16], n: usize, w: usize, x: usize)
     ensures { Turned n w (only_row x n (first_rows w cells.old masks.old))
         cells.old masks.old cells.new masks.new }
 {
-    let unit = n * w;
     let b = x * w;
     let mask = masks[x];
-    let mut y = next(cells, mask, b, w, 0);
-    while y < n {
-        put(cells, masks, n + y, unit + y * w, x / 64, 1 << (x % 64));
-        y = next(cells, mask, b, w, y + 1);
+    for c in Ones::of(mask as u64, w) {
+        let word = cut(cells[b + c], c, n);
+        for k in Ones::of(word, 64) {
+            let y = c * 64 + k;
+            put(cells, masks, w, n + y, x / 64, 1 << (x % 64));
+        }
     }
 }
 
-// Row x of the first relation, at place b, replaced by that of the second.
-fn take_row(cells: &mut [u64], masks: &mut [u16], n: usize, w: usize, x: usize, b: usize)
-    requires { Space n w (n + n) (length cells.old) (length masks.old) × (x < n) × (b ≡ x * w) }
-    ensures { Replaced n w x b (second_rows n w cells.old masks.old x)
+// Row x of the first relation replaced by that of the second.
+fn take_row(cells: &mut [u64], masks: &mut [u16], n: usize, w: usize, x: usize)
+    requires { Space n w (n + n) (length cells.old) (length masks.old) × (x < n) }
+    ensures { Replaced n w x (x * w) (second_rows n w cells.old masks.old x)
         cells.old masks.old cells.new masks.new }
 {
     masks[x] = 0;
-    let source = masks[n + x];
-    let unit = n * w;
-    merge(cells, masks, w, x, b, source, unit + b);
+    merge(cells, masks, w, x, n + x);
 }
 
 // The second relation taken over into the first.
@@ -120,12 +105,8 @@ fn take_second(cells: &mut [u64], masks: &mut [u16], n: usize, w: usize)
     requires { Space n w (n + n) (length cells.old) (length masks.old) }
     ensures { first n w cells.new masks.new ≡ second n w cells.old masks.old }
 {
-    let mut x = 0;
-    let mut b = 0;
-    while x < n {
-        take_row(cells, masks, n, w, x, b);
-        b += w;
-        x += 1;
+    for x in 0..n {
+        take_row(cells, masks, n, w, x);
     }
 }
 
@@ -135,10 +116,8 @@ pub fn transpose(cells: &mut [u64], masks: &mut [u16], n: usize, w: usize)
     ensures { first n w cells.new masks.new ≡ transpose (first n w cells.old masks.old) }
 {
     start_second(masks, n);
-    let mut x = 0;
-    while x < n {
+    for x in 0..n {
         turn_row(cells, masks, n, w, x);
-        x += 1;
     }
     take_second(cells, masks, n, w);
 }

@@ -3,7 +3,8 @@
 // whole words.
 // There are three parts of 1,024 marks, a bit each. Mark x says that row x is closed, mark SEEN + x that the search in depth has seen it, and mark
 // 2 * SEEN + x that it is empty.
-ghost use Rattle.std.specs.Prelude.{◌≡◌, ◌⊎◌, true, ℕ, ◌+◌, ◌*◌, ◌/◌, ◌≤◌, ◌<◌, max, eqb, length, get_or};
+ghost use Rattle.std.specs.Prelude.{◌≡◌, ◌⊎◌, true, ℕ, ◌+◌, ◌*◌, ◌/◌, ◌≤◌, ◌<◌, max, eqb, length, get_or, IfSome};
+ghost use Rattle.std.specs.Option.{unwrap_or};
 ghost use Rattle.book.specs.Basics.{pick};
 ghost use Rattle.book.specs.Causes.{max_records};
 ghost use Rattle.k2.specs.Sizes.{rows_words};
@@ -13,11 +14,13 @@ ghost use Rattle.bits.specs.BitSets.{put};
 ghost use Rattle.rows.specs.Rows.{flat};
 ghost use Rattle.rows.specs.Steps.{Masked};
 ghost use Rattle.grid.specs.Grid.{Space, row_of, first_rows, first};
-ghost use Rattle.grid.specs.Steps.{most_steps, stack_places, Clean, Merged, Fresh, empty_marks, Filled, Started, RowClosed, Onward};
-ghost use Rattle.grid.specs.Steps.{Looking, Marking, Passing, Stacked};
+ghost use Rattle.grid.specs.Steps.{stack_places, Clean, Merged, Fresh, empty_marks, Filled, Started, RowClosed};
+ghost use Rattle.grid.specs.Steps.{Looking, Marking};
+ghost use Rattle.grid.specs.Closings.{Goes};
 
 use crate::row::merge;
-use crate::words::{above, lowest};
+use crate::state::Closing;
+use crate::words::{Ones, lowest};
 
 // So many words a row has at most, and a part of the marks.
 const ROW: usize = 16;
@@ -48,8 +51,8 @@ fn found_or(found: usize, n: usize, left: u64, best: u64, c: usize) -> usize
     c * 64 + lowest(left)
 }
 
-// A column below n of row x, with the mask, that is not seen; n or more if there is none, where all from n on count as seen. That of a closed record, where
-// there is one, all that it leads to being then seen at once, and of those one near column x. Nothing but speed rests on that choice.
+// A column below n of row x, with the mask, that is not seen, if there is one, where all from n on count as seen. That of a closed record, where there
+// is one, all that it leads to being then seen at once, and of those one near column x. Nothing but speed rests on that choice.
 fn fresh(
     cells: &[u64],
     mask: u16,
@@ -58,28 +61,22 @@ fn fresh(
     x: usize,
     seen: &[u64],
     closed: &[u64],
-) -> usize
+) -> Option<usize>
     requires { Looking n w x cells.now seen.now closed.now }
-    ensures { Fresh n w (row_of cells.now (x * w) mask) (bit_at seen.now) result }
+    ensures fresh { Fresh n w (row_of cells.now (x * w) mask) (bit_at seen.now) (unwrap_or result n) }
+    ensures below { IfSome result (λ z. z < n) }
 {
-    let words = mask as u64;
     let b = x * w;
     let mut found = n;
-    let mut c = lowest(words);
-    while c < w {
+    for c in Ones::of(mask as u64, w) {
         let left = cells[b + c] & !seen[c];
         let best = left & closed[c];
         found = found_or(found, n, left, best, c);
-        if best != 0 {
-            if found < n {
-                if x < c * 64 + 64 {
-                    return found;
-                }
-            }
+        if best != 0 && found < n && x < c * 64 + 64 {
+            return Some(found);
         }
-        c = above(words, c);
     }
-    found
+    if found < n { Some(found) } else { None }
 }
 
 // The columns of the row at place b, with the mask, put into a set.
@@ -87,11 +84,8 @@ fn add_row(cells: &[u64], mask: u16, w: usize, b: usize, set: &mut [u64])
     requires { (w ≤ 16) × (b + w ≤ length cells.now) × (16 ≤ length set.old) }
     ensures { (y : ℕ) → y < w * 64 → bit_at set.new y ≡ max (bit_at set.old y) (row_of cells.now b mask y) }
 {
-    let words = mask as u64;
-    let mut c = lowest(words);
-    while c < w {
-        set[c] = set[c] | cells[b + c];
-        c = above(words, c);
+    for c in Ones::of(mask as u64, w) {
+        set[c] |= cells[b + c];
     }
 }
 
@@ -132,8 +126,7 @@ fn lead_on(cells: &mut [u64], masks: &mut [u16], n: usize, w: usize, x: usize, z
     if x == z {
         return;
     }
-    let source = masks[z];
-    merge(cells, masks, w, x, x * w, source, z * w);
+    merge(cells, masks, w, x, z);
 }
 
 // The records that are marked as empty.
@@ -142,10 +135,8 @@ fn empty_records(marks: &[u64]) -> [u64; ROW]
     ensures { (u : ℕ) → u < max_records → bit_at result u ≡ bit_at marks.now (empty_marks + u) }
 {
     let mut records: [u64; ROW] = [0; ROW];
-    let mut c = 0;
-    while c < ROW {
+    for c in 0..ROW {
         records[c] = marks[2 * ROW + c];
-        c += 1;
     }
     records
 }
@@ -156,172 +147,121 @@ fn close_row(cells: &mut [u64], masks: &mut [u16], n: usize, w: usize, x: usize,
     ensures { RowClosed n w x (bit_at marks.now) cells.old masks.old cells.new masks.new }
 {
     let mut seen = empty_records(marks);
-    let mut z = fresh(cells, masks[x], n, w, x, &seen, marks);
-    while z < n {
+    while let Some(z) = fresh(cells, masks[x], n, w, x, &seen, marks) {
         let whole = bits::bit(marks, z);
         lead_on(cells, masks, n, w, x, z);
         if leads_back(cells, masks[z], z * w, x, whole) {
             return;
         }
         mark(cells, masks[z], w, z, whole, &mut seen);
-        z = fresh(cells, masks[x], n, w, x, &seen, marks);
     }
 }
 
-// Row x closed, unless it is.
-fn close_once(cells: &mut [u64], masks: &mut [u16], n: usize, w: usize, x: usize, marks: &mut [u64])
-    requires { Space n w n (length cells.old) (length masks.old) × (length marks.old ≡ 48) }
-    ensures { Onward n w marks.old cells.old masks.old marks.new cells.new masks.new
-        × (x < n → bit_at marks.new x ≡ 1) }
+// A column of the row at place b, with the mask, whose record is not marked as seen.
+fn unseen(cells: &[u64], mask: u16, w: usize, b: usize, marks: &[u64]) -> Option<usize>
+    requires { (w ≤ 16) × (b + w ≤ length cells.now) × (length marks.now ≡ 48) }
+    ensures { IfSome result (λ z. z < max_records) }
 {
-    if n <= x {
-        return;
-    }
-    if bits::bit(marks, x) == 1 {
-        return;
-    }
-    close_row(cells, masks, n, w, x, marks);
-    bits::set_bit(marks, x);
-}
-
-// A column of row x, at place b with the mask, whose record is not marked as seen; n or more if there is none.
-fn unseen(cells: &[u64], mask: u16, n: usize, w: usize, b: usize, marks: &[u64]) -> usize
-    requires { Passing n w b cells.now marks.now }
-    ensures { result < most_steps }
-{
-    let words = mask as u64;
-    let mut c = lowest(words);
-    while c < w {
+    for c in Ones::of(mask as u64, w) {
         let left = cells[b + c] & !marks[ROW + c];
         if left != 0 {
-            return c * 64 + lowest(left);
+            return Some(c * 64 + lowest(left));
         }
-        c = above(words, c);
     }
-    n
+    None
 }
 
-// A step of the search in depth: a record that row x leads to and that is not seen yet, which then is; if there is none, row x is closed, and n.
-fn deeper(
-    cells: &mut [u64],
-    masks: &mut [u16],
-    n: usize,
-    w: usize,
-    x: usize,
-    marks: &mut [u64],
-) -> usize
-    requires { Space n w n (length cells.old) (length masks.old) × (length marks.old ≡ 48) }
-    ensures { (result ≤ n) × Onward n w marks.old cells.old
-        masks.old marks.new cells.new masks.new }
-{
-    if n <= x {
-        return n;
-    }
-    let z = unseen(cells, masks[x], n, w, x * w, marks);
-    if z < n {
-        bits::set_bit(marks, SEEN + z);
-        return z;
-    }
-    close_once(cells, masks, n, w, x, marks);
-    n
-}
-
-// The depth after a step that found z, or, at n, found none.
-fn depth_after(z: usize, n: usize, depth: usize) -> usize
-    requires { depth < stack_places }
-    ensures { result ≤ depth + 1 }
-{
-    if z < n {
-        return depth + 1;
-    }
-    if depth == 0 {
-        return 0;
-    }
-    depth - 1
-}
-
-// A step from the record on top of a stack of that depth. The depth after it.
-fn advance(
-    cells: &mut [u64],
-    masks: &mut [u16],
-    n: usize,
-    w: usize,
-    marks: &mut [u64],
-    stack: &mut [u16],
-    depth: usize,
-) -> usize
-    requires { Stacked n w cells.old masks.old marks.old stack.old × (0 < depth) × (depth < stack_places) }
-    ensures { (result ≤ depth + 1) × Onward n w marks.old cells.old
-        masks.old marks.new cells.new masks.new }
-{
-    let x = stack[depth - 1] as usize;
-    let z = deeper(cells, masks, n, w, x, marks);
-    stack[depth] = z as u16;
-    depth_after(z, n, depth)
-}
-
-// Steps from the one record on the stack, until none is left there.
-fn search_on(
-    cells: &mut [u64],
-    masks: &mut [u16],
-    n: usize,
-    w: usize,
-    marks: &mut [u64],
-    stack: &mut [u16],
-)
-    requires { Space n w n (length cells.old) (length masks.old) × (length marks.old ≡ 48)
-        × (length stack.old ≡ stack_places) }
-    ensures { Onward n w marks.old cells.old masks.old marks.new cells.new masks.new }
-{
-    let mut depth = 1;
-    let mut step: usize = 0;
-    while step < STEPS {
-        if depth == 0 {
+impl Closing<'_> {
+    // Row x closed, unless it is.
+    fn close_once(&mut self, x: usize)
+        ensures goes { Goes self.old self.new }
+        ensures closed { x < self.old.n → bit_at self.new.marks.now x ≡ 1 }
+    {
+        if self.n <= x {
             return;
         }
-        depth = advance(cells, masks, n, w, marks, stack, depth);
-        step += 1;
+        let marks = &mut *self.marks;
+        if bits::bit(marks, x) == 1 {
+            return;
+        }
+        close_row(self.cells, self.masks, self.n, self.w, x, marks);
+        bits::set_bit(marks, x);
     }
-}
 
-// The rows that row x leads to closed before it, in the order in which a search in depth leaves them, so that most of what they lead to is found
-// closed. Nothing but speed rests on that order.
-fn close_from(
-    cells: &mut [u64],
-    masks: &mut [u16],
-    n: usize,
-    w: usize,
-    x: usize,
-    marks: &mut [u64],
-    stack: &mut [u16],
-)
-    requires { Stacked n w cells.old masks.old marks.old stack.old × (x < n) }
-    ensures { Onward n w marks.old cells.old masks.old marks.new cells.new masks.new }
-{
-    if bits::bit(marks, SEEN + x) == 1 {
-        return;
+    // A step of the search in depth: a record that row x leads to and that is not seen yet, which then is; if there is none, row x is closed.
+    fn deeper(&mut self, x: usize) -> Option<usize>
+        ensures goes { Goes self.old self.new }
+        ensures below { IfSome result (λ z. z < max_records) }
+    {
+        if self.n <= x {
+            return None;
+        }
+        let mask = self.masks[x];
+        let cells = &mut *self.cells;
+        let marks = &mut *self.marks;
+        if let Some(z) = unseen(cells, mask, self.w, x * self.w, marks) {
+            if z < self.n {
+                bits::set_bit(marks, SEEN + z);
+                return Some(z);
+            }
+        }
+        self.close_once(x);
+        None
     }
-    bits::set_bit(marks, SEEN + x);
-    stack[0] = x as u16;
-    search_on(cells, masks, n, w, marks, stack);
-}
 
-// Row x closed, and before it the rows that it leads to.
-fn close_record(
-    cells: &mut [u64],
-    masks: &mut [u16],
-    n: usize,
-    w: usize,
-    x: usize,
-    marks: &mut [u64],
-    stack: &mut [u16],
-)
-    requires { Stacked n w cells.old masks.old marks.old stack.old × (x < n) }
-    ensures { Onward n w marks.old cells.old masks.old marks.new cells.new masks.new
-        × (bit_at marks.new x ≡ 1) }
-{
-    close_from(cells, masks, n, w, x, marks, stack);
-    close_once(cells, masks, n, w, x, marks);
+    // A step from the record on top of the stack, of that depth. The depth after it.
+    fn advance(&mut self, depth: usize) -> usize
+        requires { (0 < depth) × (depth < stack_places) }
+        ensures goes { Goes self.old self.new }
+        ensures depth { result ≤ depth + 1 }
+    {
+        let x = self.stack[depth - 1] as usize;
+        match self.deeper(x) {
+            Some(z) => {
+                self.stack[depth] = z as u16;
+                depth + 1
+            }
+            None => depth - 1,
+        }
+    }
+
+    // Steps from the one record on the stack, until none is left there.
+    fn search_on(&mut self)
+        ensures { Goes self.old self.new }
+    {
+        let mut depth = 1;
+        for step in 0usize..STEPS {
+            if depth == 0 {
+                return;
+            }
+            depth = self.advance(depth);
+        }
+    }
+
+    // The rows that row x leads to closed before it, in the order in which a search in depth leaves them, so that most of what they lead to is found
+    // closed. Nothing but speed rests on that order.
+    fn close_from(&mut self, x: usize)
+        requires { x < self.old.n }
+        ensures { Goes self.old self.new }
+    {
+        let marks = &mut *self.marks;
+        if bits::bit(marks, SEEN + x) == 1 {
+            return;
+        }
+        bits::set_bit(marks, SEEN + x);
+        self.stack[0] = x as u16;
+        self.search_on();
+    }
+
+    // Row x closed, and before it the rows that it leads to.
+    fn close_record(&mut self, x: usize)
+        requires { x < self.old.n }
+        ensures goes { Goes self.old self.new }
+        ensures closed { bit_at self.new.marks.now x ≡ 1 }
+    {
+        self.close_from(x);
+        self.close_once(x);
+    }
 }
 
 // The records below n whose rows are not empty.
@@ -330,12 +270,10 @@ fn occupied(masks: &[u16], n: usize) -> [u64; ROW]
     ensures { Filled n masks.now (bit_at result) }
 {
     let mut records: [u64; ROW] = [0; ROW];
-    let mut x = 0;
-    while x < n {
+    for x in 0..n {
         if masks[x] != 0 {
             bits::set_bit(&mut records, x);
         }
-        x += 1;
     }
     records
 }
@@ -346,12 +284,10 @@ fn start_marks(filled: &[u64]) -> [u64; MARK_WORDS]
     ensures { Started max_records (bit_at filled.now) (bit_at result) }
 {
     let mut marks: [u64; MARK_WORDS] = [0; MARK_WORDS];
-    let mut c = 0;
-    while c < ROW {
+    for c in 0..ROW {
         let rest = !filled[c];
         marks[ROW + c] = rest;
         marks[2 * ROW + c] = rest;
-        c += 1;
     }
     marks
 }
@@ -365,10 +301,18 @@ fn close_all(cells: &mut [u64], masks: &mut [u16], n: usize, w: usize)
     let filled = occupied(masks, n);
     let mut marks = start_marks(&filled);
     let mut stack: [u16; STACK] = [0; STACK];
-    let mut x = bits::next(&filled, 0, n);
-    while x < n {
-        close_record(cells, masks, n, w, x, &mut marks, &mut stack);
-        x = bits::next(&filled, x + 1, n);
+    let mut closing = Closing {
+        cells,
+        masks,
+        n,
+        w,
+        marks: &mut marks,
+        stack: &mut stack,
+    };
+    for c in 0..ROW {
+        for k in Ones::of(filled[c], 64) {
+            closing.close_record(c * 64 + k);
+        }
     }
 }
 
@@ -385,10 +329,8 @@ fn mask_rows(rows: &[u64], n: usize, masks: &mut [u16])
     requires { (n ≤ max_records) × (length rows.now ≡ rows_words) × (n ≤ length masks.old) }
     ensures { (x : ℕ) → x < n → Masked (bit_at rows.now) x (get_or masks.new x 0) }
 {
-    let mut row = 0;
-    while row < n {
+    for row in 0..n {
         masks[row] = rows::squares(rows, row) as u16;
-        row += 1;
     }
 }
 

@@ -5,20 +5,17 @@ ghost use Rattle.k2.specs.PairSets.{listed};
 ghost use Rattle.grid.specs.Grid.{Space, row_of, first};
 ghost use Rattle.grid.specs.Steps.{cut_row, columns};
 
-use crate::words::{above, count, cut, lowest};
+use crate::words::{Ones, count, cut};
 
 // How many pairs row x with the mask has, in the columns below n.
 fn count_row(cells: &[u64], mask: u16, n: usize, w: usize, x: usize) -> usize
     requires { Space n w n (length cells.now) n × (x < n) }
     ensures { (result ≤ max_records) × (result ≡ length (columns (cut_row n (row_of cells.now (x * w) mask)) (x * max_records) n)) }
 {
-    let words = mask as u64;
     let b = x * w;
     let mut s = 0;
-    let mut c = lowest(words);
-    while c < w {
+    for c in Ones::of(mask as u64, w) {
         s += count(cut(cells[b + c], c, n));
-        c = above(words, c);
     }
     s
 }
@@ -29,10 +26,8 @@ pub fn count_pairs(cells: &[u64], masks: &[u16], n: usize, w: usize) -> usize
     ensures { result ≡ length (listed n (first n w cells.now masks.now)) }
 {
     let mut t = 0;
-    let mut x = 0;
-    while x < n {
+    for x in 0..n {
         t += count_row(cells, masks[x], n, w, x);
-        x += 1;
     }
     t
 }

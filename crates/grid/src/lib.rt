@@ -13,6 +13,7 @@ mod listing;
 mod putting;
 mod row;
 mod spreading;
+mod state;
 mod words;
 
 pub use algebra::{compose, transpose, unite};

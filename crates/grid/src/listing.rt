@@ -8,7 +8,7 @@ ghost use Rattle.answers.specs.Listing.{Grown};
 ghost use Rattle.grid.specs.Steps.{cut_row, columns};
 
 use crate::PAIR_UNIT;
-use crate::words::{above, cut, lowest};
+use crate::words::{Ones, cut};
 
 // The bits of a word, each as `at` + its place, written from place t on. The place after them.
 fn list_word(word: u64, at: usize, out: &mut [u32], t: usize) -> usize
@@ -16,15 +16,9 @@ fn list_word(word: u64, at: usize, out: &mut [u32], t: usize) -> usize
     ensures { (result ≤ t + 64) × Grown t result (columns (digit word) at 64) out.old out.new }
 {
     let mut s = t;
-    let mut p = at;
-    let mut rest = word;
-    while rest != 0 {
-        let k = lowest(rest);
-        p += k;
-        answers::put_u32(out, s, p as u32);
+    for k in Ones::of(word, 64) {
+        answers::put_u32(out, s, (at + k) as u32);
         s += 1;
-        p += 1;
-        rest = (rest >> k) >> 1;
     }
     s
 }
@@ -43,14 +37,11 @@ fn list_row(
     ensures { (result ≤ t + max_records)
         × Grown t result (columns (cut_row n (row_of cells.now (x * w) mask)) (x * max_records) n) out.old out.new }
 {
-    let words = mask as u64;
     let b = x * w;
     let mut s = t;
-    let mut c = lowest(words);
-    while c < w {
+    for c in Ones::of(mask as u64, w) {
         let word = cut(cells[b + c], c, n);
         s = list_word(word, x * PAIR_UNIT + c * 64, out, s);
-        c = above(words, c);
     }
     s
 }
@@ -63,10 +54,8 @@ pub fn list(cells: &[u64], masks: &[u16], n: usize, w: usize, out: &mut [u32]) -
         ++ drop (length (listed n (first n w cells.now masks.now))) out.old) }
 {
     let mut t = 0;
-    let mut x = 0;
-    while x < n {
+    for x in 0..n {
         t = list_row(cells, masks[x], n, w, x, out, t);
-        x += 1;
     }
     t
 }

@@ -14,10 +14,8 @@ pub fn start(masks: &mut [u16], n: usize)
     requires { n ≤ length masks.old }
     ensures { (w : ℕ) (ws : List ℕ) → first n w ws masks.new ≡ no_pairs }
 {
-    let mut x = 0;
-    while x < n {
+    for x in 0..n {
         masks[x] = 0;
-        x += 1;
     }
 }
 
@@ -33,7 +31,7 @@ fn put_pair(cells: &mut [u64], masks: &mut [u16], n: usize, w: usize, x: usize, 
     if n <= y {
         return;
     }
-    put(cells, masks, x, x * w, y / 64, 1 << (y % 64));
+    put(cells, masks, w, x, y / 64, 1 << (y % 64));
 }
 
 // Each record below n that is in use joined to itself.
@@ -42,12 +40,10 @@ pub fn put_diagonal(used: &[u64], cells: &mut [u64], masks: &mut [u16], n: usize
     ensures { first n w cells.new masks.new
         ≡ union (first n w cells.old masks.old) (within n (diagonal (bit_at used.now))) }
 {
-    let mut x = 0;
-    while x < n {
+    for x in 0..n {
         if bits::bit(used, x) == 1 {
             put_pair(cells, masks, n, w, x, x);
         }
-        x += 1;
     }
 }
 
@@ -90,9 +86,7 @@ pub fn put_letters(
     ensures { first n w cells.new masks.new
         ≡ union (first n w cells.old masks.old) (within n (crossed_words words.now forward against)) }
 {
-    let mut i = 0;
-    while i < words.len() {
+    for i in 0..words.len() {
         put_word(words[i], forward, against, cells, masks, n, w);
-        i += 1;
     }
 }

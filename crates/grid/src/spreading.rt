@@ -6,20 +6,17 @@ ghost use Rattle.rows.specs.Rows.{flat};
 ghost use Rattle.grid.specs.Grid.{Space, row_of, first};
 ghost use Rattle.grid.specs.Steps.{cut_row, Spread, Spreading};
 
-use crate::words::{above, cut, lowest};
+use crate::words::{Ones, cut};
 
 // Row x with the mask, in the columns below n, written as row x of the rows, which is empty.
 fn spread_row(cells: &[u64], mask: u16, n: usize, w: usize, x: usize, rows: &mut [u64])
     requires { Spreading n w x cells.now rows.old }
     ensures { Spread x (cut_row n (row_of cells.now (x * w) mask)) 16 rows.old rows.new }
 {
-    let words = mask as u64;
     let b = x * w;
     let to = x * 16;
-    let mut c = lowest(words);
-    while c < w {
+    for c in Ones::of(mask as u64, w) {
         rows[to + c] = cut(cells[b + c], c, n);
-        c = above(words, c);
     }
 }
 
@@ -29,9 +26,7 @@ pub fn spread(cells: &[u64], masks: &[u16], n: usize, w: usize, rows: &mut [u64]
     ensures { bit_at rows.new ≡ flat (first n w cells.now masks.now) }
 {
     rows::clear(rows);
-    let mut x = 0;
-    while x < n {
+    for x in 0..n {
         spread_row(cells, masks[x], n, w, x, rows);
-        x += 1;
     }
 }

@@ -1,23 +1,51 @@
-// These functions work on one word: they find its lowest bit, or the next above one, and put a word into another.
-ghost use Rattle.std.specs.Prelude.{◌≡◌, ℕ, ◌+◌, ◌*◌, ◌≤◌, ◌<◌, max, min, ltb, length};
+// These functions work on one word: they find its lowest bit, and its ones in turn, and put a word into another.
+ghost use Rattle.std.specs.Prelude.{◌≡◌, ℕ, ◌+◌, ◌-◌, ◌*◌, ◌≤◌, ◌<◌, ◌≢◌, max, min, ltb, length, MatchOption};
+ghost use Rattle.std.specs.Iterator.{at_most};
 ghost use Rattle.book.specs.Basics.{pick};
 ghost use Rattle.k2.specs.Bits.{digit};
-ghost use Rattle.grid.specs.Steps.{Lowest, columns};
+ghost use Rattle.grid.specs.Steps.{low, Lowest, One, columns};
 
 // The lowest bit of a word; 64 if it has none.
 pub fn lowest(word: u64) -> usize
-    ensures { Lowest (digit word) 0 64 result }
+    ensures place { result ≡ low word }
+    ensures first { Lowest (digit word) 0 64 result }
+    ensures some { word ≢ 0 → result < 64 }
 {
     u64::trailing_zeros(word) as usize
 }
 
-// The lowest bit of a word above k; 64 or more if there is none.
-pub fn above(word: u64, k: usize) -> usize
-    requires { k < 64 }
-    ensures { Lowest (digit word) (k + 1) 64 result }
-{
-    let rest = (word >> k) >> 1;
-    k + 1 + u64::trailing_zeros(rest) as usize
+// The places of the ones of a word below an end, ascending.
+#[derive(Clone, Copy)]
+pub struct Ones {
+    left: u64,
+    end: usize,
+    ghost within_word: { end ≤ 64 },
+}
+
+impl Ones {
+    pub fn of(word: u64, end: usize) -> Ones
+        requires { end ≤ 64 }
+        ensures { (result.left ≡ word) × (result.end ≡ end) }
+    {
+        Ones { left: word, end }
+    }
+}
+
+impl Iterator for Ones {
+    type Item = usize;
+
+    ghost next_gives = { λ s r t. (t.end ≡ s.end) × MatchOption r (s.end ≤ low s.left) (λ k. One s.left s.end k t.left) };
+
+    ghost remaining = { λ s. at_most (s.end - low s.left) };
+
+    fn next(&mut self) -> Option<usize> {
+        let k = lowest(self.left);
+        if self.end <= k {
+            return None;
+        }
+        self.left &= self.left - 1;
+        Some(k)
+    }
 }
 
 // How many bits a word has.

@@ -8,8 +8,9 @@
 --   Upto n f g            f and g agree in the first n words
 --   upto_none, upto_more, upto_all
 --                         words written in turn: before the first, one more, all of them
---   ones-le, ones_most, ones_less, ones_gap, ones_more, ones_part, ones_word, ones_shl
---                         the count of ones: below its bound, of fewer ones, over a gap, one digit more, of a part of a word, of a whole one, of a word shifted
+--   ones-le, ones_same, ones_most, ones_less, ones_gap, ones_more, ones_part, ones_word, ones_shl
+--                         the count of ones: below its bound, of the same bits, of fewer ones, over a gap, one digit more, of a part of a word, of a whole
+--                         one, of a word shifted
 --   ones_cons, ones_append, ones_first
 --                         the count of ones of lists of bits, joined
 --   value_lt, value_digit
@@ -122,6 +123,12 @@ pub ones-le : (f : ℕ → ℕ) → Bits f → (n : ℕ) → ones_below f n ≤ 
 unfolding ones_below
 ones-le f b zero = zero-le
 ones-le f b (suc n) = omega (arith, ones-le f b n, b n)
+
+-- the same bits
+pub ones_same : (f g : ℕ → ℕ) (n : ℕ) → ((k : ℕ) → k < n → f k ≡ g k) → ones_below f n ≡ ones_below g n
+unfolding ones_below
+ones_same f g zero h = refl
+ones_same f g (suc n) h = omega (arith, ones_same f g n (λ k l. h k (omega arith)), h n (omega arith))
 
 -- fewer ones
 pub ones_most : (g f : ℕ → ℕ) (n : ℕ) → ((y : ℕ) → y < n → g y ≤ f y) → ones_below g n ≤ ones_below f n

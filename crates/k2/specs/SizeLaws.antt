@@ -1,8 +1,8 @@
 -- Laws of sizes: those of `full_size` and of `compacted`, and that D is the words of a full tree.
 --   full_size_last, full_size_four, full_size_power, full_size_next
 --                  the bits of a full tree: level by level, in fours, as a power, with one level more
---   square_power, four_most, full_size_most
---                  for sides of at most 1,024: how many cells and bits at most
+--   square_power, four_most, full_size_most, full_size_side
+--                  for sides of at most 1,024: how many cells and bits at most; the bits by the side's square
 --   tree_unit_size, tree_unit_some, tree_unit_most, tree_unit_mono
 --                  D is the words of a full tree, at least 1, at most 21,846, and not more for fewer records
 --   compacted_length, groups_most
@@ -61,13 +61,13 @@ four_most h l =
 pub full_size_most : (h : ℕ) → h ≤ 10 → full_size h 1 ≤ most_tree_bits
 full_size_most h l = omega (arith, full_size_power h, four_most h l)
 
+pub full_size_side : (h : ℕ) → 4 * (2 ^ h * 2 ^ h - 1) / 3 ≡ full_size h 1
+full_size_side h = rw (square_power h) (omega (arith, full_size_power h))
+
 -- D
 pub tree_unit_size : (n : ℕ) → tree_unit n ≡ (full_size (height n) 1 + 63) / 64
 unfolding tree_unit
-tree_unit_size n =
-    let h : ℕ = height n in
-    let e : 4 * (2 ^ h * 2 ^ h - 1) / 3 ≡ full_size h 1 = rw (square_power h) (omega (arith, full_size_power h)) in
-    rw e
+tree_unit_size n = rw (full_size_side (height n))
 
 pub tree_unit_some : (n : ℕ) → 1 ≤ tree_unit n
 tree_unit_some n = omega (arith, tree_unit_size n, full_size_power (height n), four_some (height n) (height_is n).0)

@@ -1,15 +1,28 @@
--- Laws of the digits of a word: those of a remainder and of a shift, and the lowest that is set. One law is of a table of numbers. Assumes nothing.
-use Rattle.std.specs.Prelude.{◌≡◌, refl, Bool, true, false, ℕ, zero, suc, ◌+◌, ◌-◌, ◌*◌, ◌/◌, ◌%◌, ◌^◌, ◌≤◌, ◌<◌}
+-- Laws of the digits of a word.
+--   digit_mod, digit_past
+--                   those of a remainder by a power of two
+--   shifted_in, shifted_out, digit_left
+--                   those of a word moved up
+--   digit_all       a word with none is 0
+--   trailing_set, trailing_clear, trailing_lt
+--                   the lowest that is set
+--   less_one        of a word less one, at that digit and above it
+--   lowest_gone, lowest_left
+--                   of a word without it
+--   or-none         the or of two words is 0 if both are
+--   all-below       a table of tests, of which each holds
+-- Assumes nothing.
+use Rattle.std.specs.Prelude.{◌≡◌, refl, Bool, true, false, ℕ, zero, suc, ◌+◌, ◌-◌, ◌*◌, ◌/◌, ◌%◌, ◌^◌, ◌≤◌, ◌<◌, min}
 use Rattle.std.proofs.Common.{sym, ap, ◌∙◌, mod-lt, pow-suc, arith, pow_pos, le-leb}
 use Rattle.std.proofs.Math.Decide.{dec_lt}
-use Rattle.std.specs.Int.Bits.{bit_or, or_add_and}
+use Rattle.std.specs.Int.Bits.{bit_and, bit_or, or_add_and}
 use Rattle.std.proofs.lemmas.Nat.{and_le_l, and_le_r}
 use Rattle.std.specs.Int.Count.{count_trailing_zeros, under}
 use Rattle.std.proofs.Math.Pow.{field, mod-mod-pow}
 use Rattle.std.proofs.lemmas.Bool.{lt-leb}
 use Rattle.book.specs.Basics.{pick}
 use Rattle.k2.specs.Bits.{digit}
-use Rattle.k2.specs.DigitLaws.{shifted, digit_zero, digit-suc, digit_big, digit_shl}
+use Rattle.k2.specs.DigitLaws.{shifted, digit_none, digit_zero, digit-suc, digit_and, digit_big, digit_shl}
 
 -- of w % 2 ^ n
 pub digit_mod : (n w j : ℕ) → j < n → digit (w % 2 ^ n) j ≡ digit w j
@@ -74,6 +87,46 @@ trailing_lt k w h l = go (dec_lt (count_trailing_zeros k w) k)
     go : Dec (count_trailing_zeros k w < k) → count_trailing_zeros k w < k
     go (yes a) = a
     go (no a) = absurd (omega (arith, trailing_set k w h l, digit_big k (count_trailing_zeros k w) w l (omega arith)))
+
+-- at the lowest digit that is set w - 1 has none, and above it those of w
+pub less_one : (p w : ℕ) → digit w p ≡ 1 → ((j : ℕ) → j < p → digit w j ≡ 0) → (digit (w - 1) p ≡ 0) × ((j : ℕ) → p < j → digit (w - 1) j ≡ digit w j)
+less_one zero w o n =
+    let e : w % 2 ≡ 1 = sym (digit_zero w) ∙ o in
+    (rw digit_zero (omega arith), λ j h. past e j h)
+  where
+    past : w % 2 ≡ 1 → (j : ℕ) → 0 < j → digit (w - 1) j ≡ digit w j
+    past e zero h = absurd (omega arith)
+    past e (suc j) h = let f : (w - 1) / 2 ≡ w / 2 = omega arith in rw (digit-suc, digit-suc, f)
+less_one (suc p) w o n =
+    let e : w % 2 ≡ 0 = sym (digit_zero w) ∙ n 0 (omega arith) in
+    let q : digit (w / 2) p ≡ 1 = sym (digit-suc w p) ∙ o in
+    let f : (w - 1) / 2 ≡ w / 2 - 1 = go (w / 2) refl e q in
+    let r = less_one p (w / 2) q (λ j h. sym (digit-suc w j) ∙ n (suc j) (omega arith)) in
+    (rw (digit-suc, f) r.0, λ j h. past f r.1 j h)
+  where
+    go : (x : ℕ) → w / 2 ≡ x → w % 2 ≡ 0 → digit x p ≡ 1 → (w - 1) / 2 ≡ x - 1
+    go zero h e d = absurd (omega (arith, digit_none p))
+    go (suc x) h e d = omega arith
+
+    past : (w - 1) / 2 ≡ w / 2 - 1 → ((j : ℕ) → p < j → digit (w / 2 - 1) j ≡ digit (w / 2) j) → (j : ℕ) → suc p < j → digit (w - 1) j ≡ digit w j
+    past f r zero h = absurd (omega arith)
+    past f r (suc j) h = rw (digit-suc, digit-suc, f) (r j (omega arith))
+
+-- `w & (w - 1)` is w without its lowest digit
+module _ (k w : ℕ) (some : 0 < w) (fits : w < 2 ^ k) where
+  pub lowest_gone : digit (bit_and w (w - 1)) (count_trailing_zeros k w) ≡ 0
+  lowest_gone =
+      let l = less_one (count_trailing_zeros k w) w (trailing_set k w some fits) (trailing_clear k w) in
+      rw digit_and (omega (arith, l.0))
+
+  pub lowest_left : (j : ℕ) → (j ≡ count_trailing_zeros k w → ⊥) → digit (bit_and w (w - 1)) j ≡ digit w j
+  lowest_left j n = rw digit_and (go (dec_lt j (count_trailing_zeros k w)))
+    where
+      go : Dec (j < count_trailing_zeros k w) → min (digit w j) (digit (w - 1) j) ≡ digit w j
+      go (yes h) = omega (arith, trailing_clear k w j h)
+      go (no h) =
+          let l = less_one (count_trailing_zeros k w) w (trailing_set k w some fits) (trailing_clear k w) in
+          omega (arith, l.1 j (omega arith))
 
 -- `|` that gives 0
 pub or-none : (a b : ℕ) → bit_or a b ≡ 0 → (a ≡ 0) × (b ≡ 0)

@@ -16,13 +16,7 @@ pub fn height(n: usize) -> usize
     requires { n ≤ max_records }
     ensures { (result ≡ height n) × (1 ≤ result) × (result ≤ 10) × (n ≤ 2 ^ result) }
 {
-    let mut h = 1;
-    let mut s = 2;
-    while s < n {
-        s *= 2;
-        h += 1;
-    }
-    h
+    (n.max(2) - 1).ilog2() as usize + 1
 }
 
 // The bits of a full tree of h levels.
@@ -30,15 +24,8 @@ pub fn full_size(h: usize) -> usize
     requires { h ≤ 10 }
     ensures { (result ≡ full_size h 1) × (result ≤ most_tree_bits) }
 {
-    let mut s = 0;
-    let mut k = 1;
-    let mut i = 0;
-    while i < h {
-        k *= 4;
-        s += k;
-        i += 1;
-    }
-    s
+    let side: usize = 1 << h;
+    4 * (side * side - 1) / 3
 }
 
 // D: the words of a full tree.
@@ -46,5 +33,5 @@ pub fn tree_unit(n: usize) -> usize
     requires { n ≤ max_records }
     ensures { (result ≡ tree_unit n) × (1 ≤ result) × (result ≤ most_tree_words) }
 {
-    (full_size(height(n)) + 63) / 64
+    full_size(height(n)).div_ceil(64)
 }

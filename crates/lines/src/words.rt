@@ -98,12 +98,10 @@ pub fn same(a: &[u8], b: &[u8]) -> bool
     if a.len() != b.len() {
         return false;
     }
-    let mut i = 0;
-    while i < a.len() {
+    for i in 0..a.len() {
         if a[i] != b[i] {
             return false;
         }
-        i += 1;
     }
     true
 }
@@ -115,8 +113,7 @@ fn as_number(w: &[u8]) -> u32
         return NONE;
     }
     let mut value: u32 = 0;
-    let mut i = 0;
-    while i < w.len() {
+    for i in 0..w.len() {
         let c = w[i];
         if c < b'0' {
             return NONE;
@@ -128,7 +125,6 @@ fn as_number(w: &[u8]) -> u32
         if value > MOST_NUMBER {
             return NONE;
         }
-        i += 1;
     }
     value
 }

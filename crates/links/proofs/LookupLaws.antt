@@ -1,32 +1,24 @@
 -- Laws of what the questions are given.
 --   label-part     the part of words between two places: of ascending words, those of a label
---   next_here, next_on, next-end
---                  the next place whose word passes a test: here, further on, none
---   touched_from, touched_second
---                  whether a link touches a record: found as its from; if not, by its to
 -- Assumes nothing.
 use mathlib.Core.Path.{◌≡◌, refl, ap, sym, subst, ◌∙◌}
-use mathlib.Core.Logic.{inl, inr, ⊎_elim}
+use mathlib.Core.Logic.{⊎_elim}
 use mathlib.Core.List.{List, [], ◌∷◌, map}
-use mathlib.Core.Bool.{Bool, true, false, true≢false}
-use Prim.Native.Nat.{ℕ, zero, suc, ◌+◌, ◌*◌, ◌-◌, ◌/◌, ◌%◌, ◌≤◌, ◌<◌, min}
-use native.Mathlib.Numerals.{add-one}
+use mathlib.Core.Bool.{Bool, true, false}
+use Prim.Native.Nat.{ℕ, suc, ◌+◌, ◌*◌, ◌-◌, ◌/◌, ◌%◌, ◌≤◌, ◌<◌}
 use native.Mathlib.Omega.{arith}
-use native.Mathlib.Decide.{dec_lt}
 use lib.Dec.{ltb, eqb}
-use lib.ListN.{length, take, drop, get_or, length-drop, drop_of_length-le}
-use lib.Seq.{drop-cons, get_or-drop}
-use borrow.Author.Tests.{ltb-true, ltb-false, lt-ltb, le-ltb, eqb-true, eq-eqb, ne_eqb}
+use lib.ListN.{length, take, drop}
+use borrow.Author.Tests.{ltb-true, ltb-false, eqb-true, eq-eqb, ne_eqb}
 use Rattle.book.specs.Basics.{pick, In, here, there, Rises, ended, rises}
 use Rattle.book.specs.Causes.{max_records}
-use Rattle.book.specs.Book.{Link, Sheet, present, touched}
-use Rattle.book.proofs.ListLaws.{in_front, in_none, in_at, at_in, map_in, in_map, rises_from}
+use Rattle.book.specs.Book.{Sheet, present}
+use Rattle.book.proofs.ListLaws.{in_front, in_none, map_in, in_map, rises_from}
 use Rattle.book.specs.Sheets.{Fit}
-use Rattle.book.proofs.BookLaws.{touched_end, end_touched}
 use Rattle.links.specs.Links.{link_word, Linked}
-use Rattle.links.specs.Parts.{link_of, link_pair}
+use Rattle.links.specs.Parts.{link_pair}
 use Rattle.links.specs.Ascending.{Seam}
-use Rattle.links.specs.Lookups.{PairsOf, of_label, LabelPart, has_at, first_place, next_place}
+use Rattle.links.specs.Lookups.{PairsOf, of_label, LabelPart}
 use Rattle.links.specs.AscendingLaws.{below, seam_list}
 
 -- ---- the part between two numbers
@@ -163,110 +155,3 @@ label-part ws rest label i k e first second =
       pairs = λ n s small fit linked.
           subst (λ (ps : List ℕ). PairsOf s label (map link_pair ps)) (sym (f linked.ascending)) (label_pairs ws label small fit linked);
     })
-
--- ---- the next place whose word passes a test
-first_le : (test : ℕ → Bool) (l : List ℕ) → first_place test l ≤ length l
-unfolding first_place
-first_le test [] = omega arith
-first_le test (w ∷ ws) =
-    elim (test w) as (λ (t : Bool). pick t 0 (suc (first_place test ws)) ≤ suc (length ws))
-    [ true ↦ omega arith | false ↦ omega (arith, first_le test ws) ]
-
--- what stands there passes, and nothing before it does
-first_found : (test : ℕ → Bool) (l : List ℕ) → first_place test l < length l → test (get_or l (first_place test l) 0) ≡ true
-unfolding first_place
-first_found test [] h = absurd (omega arith)
-first_found test (w ∷ ws) h = go (test w) refl h (first_found test ws)
-  where
-    go : (t : Bool) → test w ≡ t → pick t 0 (suc (first_place test ws)) < suc (length ws)
-        → (first_place test ws < length ws → test (get_or ws (first_place test ws) 0) ≡ true)
-        → test (get_or (w ∷ ws) (pick t 0 (suc (first_place test ws))) 0) ≡ true
-    go true e h ih = e
-    go false e h ih = ih (omega arith)
-
-first_passed : (test : ℕ → Bool) (l : List ℕ) (j : ℕ) → j < first_place test l → test (get_or l j 0) ≡ false
-unfolding first_place
-first_passed test [] j h = absurd (omega arith)
-first_passed test (w ∷ ws) zero h = go (test w) refl h
-  where
-    go : (t : Bool) → test w ≡ t → 0 < pick t 0 (suc (first_place test ws)) → t ≡ false
-    go true e h = absurd (omega arith)
-    go false e h = refl
-first_passed test (w ∷ ws) (suc j) h = go (test w) h (first_passed test ws j)
-  where
-    go : (t : Bool) → suc j < pick t 0 (suc (first_place test ws)) → (j < first_place test ws → test (get_or ws j 0) ≡ false) → test (get_or ws j 0) ≡ false
-    go true h ih = absurd (omega arith)
-    go false h ih = ih (omega arith)
-
-module _ (test : ℕ → Bool) (ws : List ℕ) where
-  pub next_here : (i : ℕ) → i < length ws → test (get_or ws i 0) ≡ true → next_place test ws i ≡ i
-  unfolding next_place first_place
-  next_here i h e = rw (drop-cons ws i 0 h, e) (omega arith)
-
-  pub next_on : (i : ℕ) → i < length ws → test (get_or ws i 0) ≡ false → next_place test ws i ≡ next_place test ws (i + 1)
-  unfolding next_place first_place
-  next_on i h e = rw (drop-cons ws i 0 h, e, add-one) (ap (min (length ws)) (omega arith))
-
-  pub next-end : (i : ℕ) → length ws ≤ i → next_place test ws i ≡ length ws
-  unfolding next_place first_place
-  next-end i h = rw (drop_of_length-le ws {i = i} h) (omega arith)
-
-  -- the place from at on
-  module _ (at : ℕ) where
-    next_is : next_place test ws at < length ws → (at ≤ next_place test ws at) × (test (get_or ws (next_place test ws at) 0) ≡ true)
-    unfolding next_place
-    next_is h =
-        let f = first_le test (drop at ws) in
-        let l = length-drop at ws in
-        let e : next_place test ws at ≡ at + first_place test (drop at ws) = omega arith in
-        (omega arith, rw (e, ← get_or-drop at ws (first_place test (drop at ws)) 0) (first_found test (drop at ws) (omega arith)))
-
-    next_passed : (j : ℕ) → at ≤ j → j < next_place test ws at → test (get_or ws j 0) ≡ false
-    unfolding next_place
-    next_passed j p q =
-        let e : at + (j - at) ≡ j = omega arith in
-        rw (← e, ← get_or-drop at ws (j - at) 0) (first_passed test (drop at ws) (j - at) (omega arith))
-
--- ---- whether a link touches a record
-module _ (ws : List ℕ) (r : ℕ) where
-  pub touched_from : next_place (has_at 1024 r) ws 0 < length ws → touched r (map link_of ws) ≡ true
-  unfolding has_at
-  touched_from h = end_touched r (map link_of ws) (map_in link_of (at_in ws _ 0 h)) (inl (eqb-true _ r (next_is (has_at 1024 r) ws 0 h).1))
-
-  touched_to : next_place (has_at 1 r) ws 0 < length ws → touched r (map link_of ws) ≡ true
-  unfolding has_at
-  touched_to h =
-      let w = get_or ws (next_place (has_at 1 r) ws 0) 0 in
-      let e : w / 1 % 1024 ≡ r = eqb-true _ r (next_is (has_at 1 r) ws 0 h).1 in
-      let z : w % 1024 ≡ r = omega (arith, e) in
-      end_touched r (map link_of ws) (map_in link_of (at_in ws _ 0 h)) (inr z)
-
-  -- found at neither side
-  untouched : length ws ≤ next_place (has_at 1024 r) ws 0 → length ws ≤ next_place (has_at 1 r) ws 0 → touched r (map link_of ws) ≡ false
-  unfolding has_at
-  untouched f t = go (touched r (map link_of ws)) refl
-    where
-      go : (b : Bool) → touched r (map link_of ws) ≡ b → b ≡ false
-      go false e = refl
-      go true e =
-          let o = touched_end r (map link_of ws) e in
-          let q = in_map link_of ws o.1 in
-          let a = in_at 0 q.1 in
-          let w = get_or ws a.0 0 in
-          let k : o.0 ≡ link_of w = q.2 ∙ ap link_of (sym a.2) in
-          ⊎_elim
-          (λ p. absurd (true≢false (sym (eq-eqb (w / 1024 % 1024) r (sym (ap (λ (l : Link). l.from) k) ∙ p))
-          ∙ next_passed (has_at 1024 r) ws 0 a.0 (omega arith) (omega (arith, a.1)))))
-          (λ p.
-          let y : w % 1024 ≡ r = sym (ap (λ (l : Link). l.to) k) ∙ p in
-          let z : w / 1 % 1024 ≡ r = omega (arith, y) in
-          absurd (true≢false (sym (eq-eqb (w / 1 % 1024) r z) ∙ next_passed (has_at 1 r) ws 0 a.0 (omega arith) (omega (arith, a.1)))))
-          o.2
-
-  -- not found at the first side: by the second
-  pub touched_second : length ws ≤ next_place (has_at 1024 r) ws 0 → (i : ℕ) → i ≡ next_place (has_at 1 r) ws 0 → ltb i (length ws) ≡ touched r (map link_of ws)
-  touched_second f i e = go (dec_lt i (length ws))
-    where
-      go : Dec (i < length ws) → ltb i (length ws) ≡ touched r (map link_of ws)
-      go (yes h) = lt-ltb i (length ws) h ∙ sym (touched_to (rw e at h))
-      go (no h) = le-ltb i (length ws) (omega (arith, h)) ∙ sym (untouched f (omega (arith, h, e)))

@@ -1,15 +1,10 @@
--- What is looked up among the words of links: the part of one label, and the next word that passes a test.
+-- What is looked up among the words of links: the part of one label.
 --   PairsOf s l ps  ps are the pairs x × 1,024 + y of the links x l y of the sheet s, ascending, each once
 --   of_label l ws    those of the words that are of links of the label l, in their order
 --   LabelPart ws l part
 --                   what `label_part` promises
---   has_at unit r w  whether a word has the record r in the ten bits from unit on
---   first_place test ws
---                   the first place whose word passes the test, or the number of words
---   next_place test ws at
---                   the first place from at on whose word passes the test, or the number of words
 -- Assumes nothing: these are definitions.
-use Rattle.std.specs.Prelude.{◌≡◌, List, [], ◌∷◌, map, Bool, true, ℕ, suc, ◌+◌, ◌*◌, ◌/◌, ◌%◌, ◌≤◌, min, eqb, length, take, drop}
+use Rattle.std.specs.Prelude.{◌≡◌, List, [], ◌∷◌, map, true, ℕ, ◌+◌, ◌*◌, ◌≤◌, eqb, take, drop}
 use Rattle.book.specs.Basics.{pick, In, Rises}
 use Rattle.book.specs.Causes.{max_records}
 use Rattle.book.specs.Book.{Sheet, present}
@@ -32,13 +27,3 @@ pub record LabelPart (ws : List ℕ) (l : ℕ) (part : List ℕ) : Type 0 where
   pub inside : (i k : ℕ) × (part ≡ take k (drop i ws))
   pub words : Rises 0 ws → part ≡ of_label l ws
   pub pairs : (n : ℕ) (s : Sheet) → n ≤ max_records → Fit n s → Linked ws s → PairsOf s l (map link_pair part)
-
-unfoldable pub has_at : ℕ → ℕ → ℕ → Bool
-has_at unit r w = eqb (w / unit % 1024) r
-
-unfoldable pub first_place : (ℕ → Bool) → List ℕ → ℕ
-first_place test [] = 0
-first_place test (w ∷ ws) = pick (test w) 0 (suc (first_place test ws))
-
-unfoldable pub next_place : (ℕ → Bool) → List ℕ → ℕ → ℕ
-next_place test ws at = min (length ws) (at + first_place test (drop at ws))

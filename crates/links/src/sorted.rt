@@ -4,6 +4,7 @@ ghost use Rattle.book.specs.Causes.{max_links};
 ghost use Rattle.links.specs.Ascending.{put_at, cut_at, Seam, stands_at};
 
 // The place of x among the first count words, by halving: the first whose word is not below x, where they ascend.
+// A loop of its own: the library's `partition_point` promises nothing of words that do not ascend, and this a `Seam` of any words.
 pub fn lower_bound(words: &[u32], count: usize, x: u32) -> usize
     requires { count ≤ length words.now }
     ensures { Seam x words.now count result }
@@ -26,10 +27,7 @@ pub fn stands(words: &[u32], count: usize, at: usize, x: u32) -> bool
     requires { count ≤ length words.now }
     ensures { result ≡ stands_at words.now count at x }
 {
-    if count <= at {
-        return false;
-    }
-    words[at] == x
+    at < count && words[at] == x
 }
 
 // x at the place at, and what stood there and after it one place on.
@@ -37,15 +35,8 @@ pub fn put(a: &mut [u32], count: usize, at: usize, x: u32)
     requires { (at ≤ count) × (count < max_links) × (length a.old ≡ max_links) }
     ensures { take (count + 1) a.new ≡ put_at at x (take count a.old) }
 {
-    let mut carried = x;
-    let mut j = at;
-    while j < count {
-        let t = a[j];
-        a[j] = carried;
-        carried = t;
-        j += 1;
-    }
-    a[j] = carried;
+    a.copy_within(at..count, at + 1);
+    a[at] = x;
 }
 
 // What stands after the place at, one place down.
@@ -53,9 +44,5 @@ pub fn cut(a: &mut [u32], count: usize, at: usize)
     requires { (at < count) × (count ≤ max_links) × (length a.old ≡ max_links) }
     ensures { take (count - 1) a.new ≡ cut_at at (take count a.old) }
 {
-    let mut j = at;
-    while j + 1 < count {
-        a[j] = a[j + 1];
-        j += 1;
-    }
+    a.copy_within(at + 1..count, at);
 }

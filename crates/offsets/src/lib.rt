@@ -256,11 +256,9 @@ fn fill(n: usize, base: usize, d: &mut [i64])
     requires { (length d.old ≡ n * 3) × ((n ≤ 2 ^ 20) × (base < n)) }
     ensures { three.Starts n base d.new }
 {
-    let mut i = 0;
-    while i < d.len() {
+    for i in 0..d.len() {
         let v = first_number(n, base, i);
         d[i] = v;
-        i += 1;
     }
 }
 
@@ -321,14 +319,12 @@ fn tell(n: usize, d: &[i64], list: &mut [i32])
     ensures { (found.Fits n d.now → found.Told n d.now n list.new)
         × (drop (n * 2) list.new ≡ drop (n * 2) list.old) }
 {
-    let mut x = 0;
-    while x < n {
+    for x in 0..n {
         let a = least_word(n, x, d);
         let b = most_word(n, x, d);
         let i = x * 2;
         list[i] = a;
         list[i + 1] = b;
-        x += 1;
     }
 }
 

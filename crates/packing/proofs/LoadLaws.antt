@@ -8,8 +8,8 @@
 --   reads_tree, inside_all
 --                  a whole tree is read, and its square is the set
 --   four_cells     the four cells of a square of side 2, put into rows
---   square_plain, square_turned
---                  `square`: four bits as a number, read with either sense
+--   four_plain, four_inverted
+--                  `four`: four bits as a number, read with either sense
 --   descend_child, descend_all, descend_gap
 --                  one level down: a quarter that is not empty, all four, some that are empty
 --   quarter_in, one-le, quarter_even, half_law
@@ -38,7 +38,10 @@ use Rattle.k2.specs.WordLaws.{digit_mod, shifted_in, shifted_out, trailing_set, 
 use Rattle.bits.specs.BitSets.{either, four_at}
 use Rattle.rows.specs.Rows.{flat}
 use Rattle.rows.specs.RowSets.{no_pairs}
-use Rattle.packing.specs.Reading.{turned_by, turned, inside, quarters_to, Reads}
+use Rattle.packing.specs.declared.loading.Sense.{Sense}
+use Rattle.packing.specs.declared.loading.Sense.TheVariants.{Plain, Inverted}
+use Rattle.packing.specs.Senses.{sensed}
+use Rattle.packing.specs.Reading.{turned, inside, quarters_to, Reads}
 
 -- ---- squares of a set
 module _ (h x y : ℕ) (a : Cells) (i j : ℕ) where
@@ -168,26 +171,26 @@ unfolding quarters_to union no_pairs
 quarters_none h x y a b = fun_ext (λ i. fun_ext (λ j. omega arith))
 
 -- ---- reading with a sense
-turned_by_quadrant : (s h q : ℕ) (a : Cells) → q < 4 → turned_by s (quadrant h (turned s q) a) ≡ quadrant h q (turned_by s a)
-turned_by_quadrant zero h q a l = refl
-turned_by_quadrant (suc s) h q a l =
+sensed_quadrant : (s : Sense) (h q : ℕ) (a : Cells) → q < 4 → sensed s (quadrant h (turned s q) a) ≡ quadrant h q (sensed s a)
+sensed_quadrant Plain h q a l = refl
+sensed_quadrant Inverted h q a l =
     let e : exchanged (exchanged q) ≡ q = omega arith in
     sym (quadrant_transpose h (exchanged q) a (omega arith)) ∙ ap (λ (p : ℕ). quadrant h p (transpose a)) e
 
-turned_by_bit : (s : ℕ) (a : Cells) → ((i j : ℕ) → a i j < 2) → (i j : ℕ) → turned_by s a i j < 2
-turned_by_bit zero a b i j = b i j
-turned_by_bit (suc s) a b i j = unfold transpose in (b j i)
+sensed_bit : (s : Sense) (a : Cells) → ((i j : ℕ) → a i j < 2) → (i j : ℕ) → sensed s a i j < 2
+sensed_bit Plain a b i j = b i j
+sensed_bit Inverted a b i j = unfold transpose in (b j i)
 
-pub turned_lt : (s q : ℕ) → q < 4 → turned s q < 4
-turned_lt zero q l = l
-turned_lt (suc s) q l = omega arith
+pub turned_lt : (s : Sense) (q : ℕ) → q < 4 → turned s q < 4
+turned_lt Plain q l = l
+turned_lt Inverted q l = omega arith
 
-filled_turned_by : (s h : ℕ) (a : Cells) → filled h (turned_by s a) ≡ filled h a
-filled_turned_by zero h a = refl
-filled_turned_by (suc s) h a = filled_transpose h a
+filled_sensed : (s : Sense) (h : ℕ) (a : Cells) → filled h (sensed s a) ≡ filled h a
+filled_sensed Plain h a = refl
+filled_sensed Inverted h a = filled_transpose h a
 
 -- quarter q of a square that is read
-module _ (s : ℕ) (ws : List ℕ) (h b x y : ℕ) (a : Cells) (n : Reads s ws (suc h) b x y a) (q : ℕ) (ql : q < 4) where
+module _ (s : Sense) (ws : List ℕ) (h b x y : ℕ) (a : Cells) (n : Reads s ws (suc h) b x y a) (q : ℕ) (ql : q < 4) where
   abbrev e : ℕ
   e = turned s q
 
@@ -195,9 +198,9 @@ module _ (s : ℕ) (ws : List ℕ) (h b x y : ℕ) (a : Cells) (n : Reads s ws (
   Q = quadrant h e n.square
 
   -- its cells are those of a
-  quarter_cell : (i j : ℕ) → i < 2 ^ h → j < 2 ^ h → turned_by s Q i j ≡ a (x + q / 2 * 2 ^ h + i) (y + q % 2 * 2 ^ h + j)
+  quarter_cell : (i j : ℕ) → i < 2 ^ h → j < 2 ^ h → sensed s Q i j ≡ a (x + q / 2 * 2 ^ h + i) (y + q % 2 * 2 ^ h + j)
   quarter_cell i j hi hj =
-      ap (λ (c : Cells). c i j) (turned_by_quadrant s h q n.square ql)
+      ap (λ (c : Cells). c i j) (sensed_quadrant s h q n.square ql)
       ∙ unfold quadrant in (n.cells (q / 2 * 2 ^ h + i) (q % 2 * 2 ^ h + j) (fits (q / 2) i hi (omega arith)) (fits (q % 2) j hj (omega arith))
       ∙ ap₂ a (omega arith) (omega arith))
     where
@@ -223,20 +226,21 @@ module _ (s : ℕ) (ws : List ℕ) (h b x y : ℕ) (a : Cells) (n : Reads s ws (
       }
 
   pub reads_empty : bit_at ws (b + e) ≡ 0 → (i j : ℕ) → i < 2 ^ h → j < 2 ^ h → a (x + q / 2 * 2 ^ h + i) (y + q % 2 * 2 ^ h + j) ≡ 0
-  reads_empty o i j hi hj = sym (quarter_cell i j hi hj) ∙ empty_cell h (turned_by s Q) i j hi hj (filled_turned_by s h Q ∙ sym reads_bit ∙ o)
+  reads_empty o i j hi hj = sym (quarter_cell i j hi hj) ∙ empty_cell h (sensed s Q) i j hi hj (filled_sensed s h Q ∙ sym reads_bit ∙ o)
 
 -- the cells of a square of side 2
-pub reads_cell : (s : ℕ) (ws : List ℕ) (b x y : ℕ) (a : Cells) → Reads s ws 1 b x y a → (q : ℕ) → q < 4 → bit_at ws (b + turned s q) ≡ a (x + q / 2) (y + q % 2)
+pub reads_cell : (s : Sense) (ws : List ℕ) (b x y : ℕ) (a : Cells) → Reads s ws 1 b x y a → (q : ℕ) → q < 4
+    → bit_at ws (b + turned s q) ≡ a (x + q / 2) (y + q % 2)
 unfolding filled
 reads_cell s ws b x y a n q l =
     let Q : Cells = quadrant 0 (turned s q) n.square in
-    let c : turned_by s Q 0 0 ≡ a (x + q / 2) (y + q % 2) =
+    let c : sensed s Q 0 0 ≡ a (x + q / 2) (y + q % 2) =
     quarter_cell s ws 0 b x y a n q l 0 0 (omega arith) (omega arith) ∙ ap₂ a (omega arith) (omega arith) in
-    let z : turned_by s Q 0 0 < 2 = turned_by_bit s Q (λ i j. unfold quadrant in (n.bit _ _)) 0 0 in
-    reads_bit s ws 0 b x y a n q l ∙ sym (filled_turned_by s 0 Q) ∙ omega arith
+    let z : sensed s Q 0 0 < 2 = sensed_bit s Q (λ i j. unfold quadrant in (n.bit _ _)) 0 0 in
+    reads_bit s ws 0 b x y a n q l ∙ sym (filled_sensed s 0 Q) ∙ omega arith
 
 -- ---- a whole tree
-pub reads_tree : (s n h : ℕ) (ws : List ℕ) (a : Cells) → h ≡ height n → IsSet n a → ws ≡ tree_words n a → Reads s ws h 0 0 0 (turned_by s a)
+pub reads_tree : (s : Sense) (n h : ℕ) (ws : List ℕ) (a : Cells) → h ≡ height n → IsSet n a → ws ≡ tree_words n a → Reads s ws h 0 0 0 (sensed s a)
 reads_tree s n h ws a eh is e =
     record {
       side = h;
@@ -245,7 +249,7 @@ reads_tree s n h ws a eh is e =
       bits = ap bit_at e ∙ tree_words_bits n a ∙ ap (λ (k : ℕ). bits_of (tree_bits k a)) (sym eh);
       node = root;
       bit = is.bit;
-      cells = λ i j hi hj. ap₂ (turned_by s a) (omega arith) (omega arith);
+      cells = λ i j hi hj. ap₂ (sensed s a) (omega arith) (omega arith);
     }
 
 pub inside_all : (n h : ℕ) (a : Cells) → n ≤ 2 ^ h → IsSet n a → inside h 0 0 a ≡ a
@@ -306,7 +310,7 @@ module _ (x : Cells) (r c v : ℕ) (t : Cells) (cl : c + 2 ≤ 1024) (vl : v < 1
       hit p a b d e (yes k) = rw (upper_in p k d e, lower_off p (λ f g h. omega arith)) (omega arith)
       hit p a b d e (no k) = rw (lower_in p (omega (arith, k)) d e, upper_off p (λ f g h. k f)) (omega arith)
 
--- ---- `square`
+-- ---- `four`
 -- four bits as a number, the second and the third exchanged
 four_parts : (a b c d : ℕ) → a < 2 → b < 2 → c < 2 → d < 2
     → (a + b * 4 + c * 2 + d * 8 < 16) × ((a + b * 4 + c * 2 + d * 8) % 2 ≡ a) × ((a + b * 4 + c * 2 + d * 8) / 2 % 2 ≡ c)
@@ -339,29 +343,27 @@ module _ (f : ℕ → ℕ) (bits : Bits f) (b v : ℕ) (e : v ≡ four_at f b) w
   digit_at w l (suc (suc (suc zero))) h w₀ w₁ w₂ w₃ a₀ a₁ a₂ a₃ g b₀ b₁ b₂ b₃ = omega arith
   digit_at w l (suc (suc (suc (suc q)))) h w₀ w₁ w₂ w₃ a₀ a₁ a₂ a₃ g b₀ b₁ b₂ b₃ = absurd (omega arith)
 
-  pub square_plain : (s : ℕ) → s ≡ 0 → (v < 16) × ((q : ℕ) → q < 4 → digit v q ≡ f (b + turned s q))
-  square_plain s z =
-      rw z (small, λ q l. digit_at v small q l _ _ _ _ refl refl refl refl (λ k. f (b + k)) digits_of.0 digits_of.1 digits_of.2 digits_of.3)
+  pub four_plain : (v < 16) × ((q : ℕ) → q < 4 → digit v q ≡ f (b + q))
+  four_plain = (small, λ q l. digit_at v small q l _ _ _ _ refl refl refl refl (λ k. f (b + k)) digits_of.0 digits_of.1 digits_of.2 digits_of.3)
 
   abbrev swapped : ℕ
   swapped = v % 2 + v / 2 % 2 * 4 + v / 4 % 2 * 2 + v / 8 * 8
 
-  pub square_turned : (s : ℕ) → s ≡ 1 → (swapped < 16) × ((q : ℕ) → q < 4 → digit swapped q ≡ f (b + turned s q))
-  square_turned s z =
-      let p = four_parts (v % 2) (v / 2 % 2) (v / 4 % 2) (v / 8) (omega arith) (omega arith) (omega arith) (omega (arith, small)) in
-      rw z (
+  pub four_inverted : (swapped < 16) × ((q : ℕ) → q < 4 → digit swapped q ≡ f (b + exchanged q))
+  four_inverted =
+      let p = four_parts (v % 2) (v / 2 % 2) (v / 4 % 2) (v / 8) (omega arith) (omega arith) (omega arith) (omega (arith, small)) in (
         p.0,
         λ q h. digit_at swapped p.0 q h (v % 2) (v / 4 % 2) (v / 2 % 2) (v / 8) p.1 p.2 p.3 p.4
             (λ k. f (b + exchanged k)) digits_of.0 digits_of.2 digits_of.1 digits_of.3,
       )
 
 -- ---- a square of side 2 ^ h with h at least 1
-pub descend_child : (s : ℕ) (ws : List ℕ) (h b x y : ℕ) (t : Cells) → 1 ≤ h → Reads s ws h b x y t → (q : ℕ) → q < 4 → bit_at ws (b + turned s q) ≡ 1
+pub descend_child : (s : Sense) (ws : List ℕ) (h b x y : ℕ) (t : Cells) → 1 ≤ h → Reads s ws h b x y t → (q : ℕ) → q < 4 → bit_at ws (b + turned s q) ≡ 1
     → Reads s ws (h - 1) (child_place (bit_at ws) (b + turned s q)) (x + q / 2 * 2 ^ (h - 1)) (y + q % 2 * 2 ^ (h - 1)) t
 descend_child s ws zero b x y t l n q g o = absurd (omega arith)
 descend_child s ws (suc h) b x y t l n q g o = let e : suc h - 1 ≡ h = omega arith in rw e (reads_child s ws h b x y t n q g o)
 
-descend_empty : (s : ℕ) (ws : List ℕ) (h b x y : ℕ) (t a : Cells) → 1 ≤ h → Reads s ws h b x y t → (q : ℕ) → q < 4 → bit_at ws (b + turned s q) ≡ 0
+descend_empty : (s : Sense) (ws : List ℕ) (h b x y : ℕ) (t a : Cells) → 1 ≤ h → Reads s ws h b x y t → (q : ℕ) → q < 4 → bit_at ws (b + turned s q) ≡ 0
     → union a (quarters_to q (h - 1) x y t) ≡ union a (quarters_to (q + 1) (h - 1) x y t)
 descend_empty s ws zero b x y t a l n q g o = absurd (omega arith)
 descend_empty s ws (suc h) b x y t a l n q g o = let e : suc h - 1 ≡ h = omega arith in rw e (quarters_empty q h x y t a (reads_empty s ws h b x y t n q g o))
@@ -371,7 +373,7 @@ descend_all zero x y t l = absurd (omega arith)
 descend_all (suc h) x y t l = let e : suc h - 1 ≡ h = omega arith in rw e (quarters_all h x y t)
 
 -- quarters passed that are empty
-pub descend_gap : (s : ℕ) (ws : List ℕ) (h b x y : ℕ) (t a : Cells) → 1 ≤ h → Reads s ws h b x y t
+pub descend_gap : (s : Sense) (ws : List ℕ) (h b x y : ℕ) (t a : Cells) → 1 ≤ h → Reads s ws h b x y t
     → (q r : ℕ) → q ≤ r → r ≤ 4 → ((j : ℕ) → q ≤ j → j < r → bit_at ws (b + turned s j) ≡ 0)
     → union a (quarters_to q (h - 1) x y t) ≡ union a (quarters_to r (h - 1) x y t)
 descend_gap s ws h b x y t a l n q zero k g o = let e : q ≡ 0 = omega arith in rw e refl

@@ -33,10 +33,8 @@ fn together(words: &[u64], i: usize, step: usize, count: usize) -> u64
         × Together words.now i step count result }
 {
     let mut w: u64 = 0;
-    let mut k = 0;
-    while k < count {
+    for k in 0..count {
         w = w | words[i + step * k];
-        k += 1;
     }
     w
 }
@@ -47,10 +45,8 @@ fn block(rows: &[u64], i: usize, k: usize) -> u64
     ensures { (j : ℕ) → j < 64 → digit result j ≡ digit (get_or rows.now (i + 16 * (j / 8)) 0) (8 * k + j % 8) }
 {
     let mut v: u64 = 0;
-    let mut r = 0;
-    while r < 8 {
+    for r in 0..8 {
         v = v | (rows[i + 16 * r] >> (8 * k)) % 256 << (8 * r);
-        r += 1;
     }
     v
 }
@@ -109,10 +105,8 @@ fn fill_eight(rows: &[u64], r: usize, c: usize, g: usize, base: usize, heap: &mu
 {
     let seen = together(rows, r * 128 + c / 8, 16, 8);
     if seen != 0 {
-        let mut k = 0;
-        while k < 8 {
+        for k in 0..8 {
             fill_block(rows, seen, r, c + k, g, base, heap);
-            k += 1;
         }
     }
 }
@@ -124,14 +118,12 @@ fn fill(rows: &[u64], g: usize, base: usize, heap: &mut [u64])
         → bit_at heap.new ≡ raised base (cells (g + 3) a) }
 {
     let side: usize = 1 << g;
-    let mut r = 0;
-    while r < side {
+    for r in 0..side {
         let mut c = 0;
         while c < side {
             fill_eight(rows, r, c, g, base, heap);
             c += 8;
         }
-        r += 1;
     }
 }
 

@@ -1,35 +1,17 @@
 // Which words are a k2-tree: those that come back when what is read of them is packed again.
-ghost use Rattle.std.specs.Prelude.{◌≡◌, true, ◌≤◌, length, take};
+ghost use Rattle.std.specs.Prelude.{◌≡◌, true, ◌≤◌};
 ghost use Rattle.book.specs.Causes.{max_records};
 ghost use Rattle.k2.specs.Trees.{WellFormed};
 
 use crate::loading::{Sense, load};
 use crate::making::pack;
 
-// Are the words of a the first `len` of b?
-fn same(a: &[u64], b: &[u64], len: usize) -> bool
-    requires { len ≤ length b.now }
-    ensures { (result ≡ true → a.now ≡ take len b.now) × (a.now ≡ take len b.now → result ≡ true) }
-{
-    if a.len() != len {
-        return false;
-    }
-    let mut i = 0;
-    while i < len {
-        if a[i] != b[i] {
-            return false;
-        }
-        i += 1;
-    }
-    true
-}
-
 // Is it the tree of some set of pairs below n?
 pub fn well_formed(tree: &[u64], n: usize) -> bool
     requires { n ≤ max_records }
     ensures { (result ≡ true → WellFormed n tree.now) × (WellFormed n tree.now → result ≡ true) }
 {
-    if tree.len() == 0 {
+    if tree.is_empty() {
         return true;
     }
     if k2::tree_unit(n) < tree.len() {
@@ -42,5 +24,5 @@ pub fn well_formed(tree: &[u64], n: usize) -> bool
     }
     let mut again: [u64; 21847] = [0; 21847];
     let len = pack(&rows, n, &mut again);
-    same(tree, &again, len)
+    tree == &again[..len]
 }

@@ -76,10 +76,8 @@ pub(crate) fn put_pair_line(words: &[u32], count: usize, out: &mut [u8], at: usi
     ensures { Wrote at (pair_line (take count words.now)) out.old out.new result }
 {
     let mut end = at;
-    let mut i = 0;
-    while i < count {
+    for i in 0..count {
         end = put_cell(words[i], out, end);
-        i += 1;
     }
     end = put_blanks(CELLS_WIDTH - CELL_WIDTH * count, out, end);
     report::put_byte(b'\n', out, end)
@@ -175,10 +173,8 @@ fn put_pages(text: &[u8], cells: &[u64], masks: &[u16], n: usize, lines: usize, 
         ≡ over (pages text.now (pairs_held (held cells.now masks.now n))) out.old }
 {
     let mut place = 0;
-    let mut i = 0;
-    while i < lines {
+    for i in 0..lines {
         place = put_line(text, i, cells, masks, n, place, out);
-        i += 1;
     }
 }
 

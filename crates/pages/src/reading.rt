@@ -22,10 +22,8 @@ fn record_at(pages: &[u8], at: usize) -> u32
     ensures { (result ≡ value (take 5 (drop at pages.now))) × (result < 200000) }
 {
     let mut v: u32 = 0;
-    let mut i = 0;
-    while i < RECORD_WIDTH {
+    for i in 0..RECORD_WIDTH {
         v = 10 * v + (pages[at + i] % 16) as u32;
-        i += 1;
     }
     v
 }
@@ -61,12 +59,10 @@ fn same_line(line: &[u8], pages: &[u8], at: usize) -> bool
     ensures { (result ≡ true → take 73 (drop at pages.now) ≡ line.now)
         × (take 73 (drop at pages.now) ≡ line.now → result ≡ true) }
 {
-    let mut i = 0;
-    while i < LINE {
+    for i in 0..LINE {
         if pages[at + i] != line[i] {
             return false;
         }
-        i += 1;
     }
     true
 }
@@ -77,8 +73,7 @@ fn rising(words: &[u32], count: usize, low: u32) -> u32
     ensures { Rising low (take count words.now) result }
 {
     let mut next = low;
-    let mut i = 0;
-    while i < count {
+    for i in 0..count {
         let w = words[i];
         if w < next {
             return PAST_PAIRS + 1;
@@ -87,7 +82,6 @@ fn rising(words: &[u32], count: usize, low: u32) -> u32
             return PAST_PAIRS + 1;
         }
         next = w + 1;
-        i += 1;
     }
     next
 }
@@ -185,15 +179,13 @@ fn judge(text: &[u8], pages: &[u8]) -> Judgement
     }
     let mut count = 0;
     let mut low: u32 = 0;
-    let mut i = 0;
-    while i < lines {
+    for i in 0..lines {
         let line = check_line(text, pages, i, lines, low);
         if PAST_PAIRS < line.next {
             return Judgement::Broken;
         }
         count += line.count;
         low = line.next;
-        i += 1;
     }
     if lines_of(count) != lines {
         return Judgement::Broken;
@@ -220,10 +212,8 @@ fn list_lines(pages: &[u8], lines: usize, list: &mut [u32])
     ensures { list.new ≡ over (words_before pages.now lines) list.old }
 {
     let mut end = 0;
-    let mut i = 0;
-    while i < lines {
+    for i in 0..lines {
         end = list_line(pages, i, list, end);
-        i += 1;
     }
 }
 

@@ -16,12 +16,10 @@ pub fn in_use(marks: &[u32], n: usize) -> [u64; 16]
     ensures { bit_at result ≡ used_below n marks.now }
 {
     let mut records: [u64; 16] = [0; 16];
-    let mut i = 0;
-    while i < n {
+    for i in 0..n {
         if marks[i] != register::WITHDRAWN_MARK {
             bits::set_bit(&mut records, i);
         }
-        i += 1;
     }
     records
 }

@@ -23,14 +23,12 @@ fn ranks(marks: &[u32]) -> [u32; RANKS]
     ensures { Ranked marks.now result }
 {
     let mut ranks: [u32; RANKS] = [0; RANKS];
-    let mut i = 0;
-    while i < marks.len() {
+    for i in 0..marks.len() {
         let mut next = ranks[i];
         if marks[i] != WITHDRAWN_MARK {
             next = next + 1;
         }
         ranks[i + 1] = next;
-        i += 1;
     }
     ranks
 }
@@ -41,14 +39,12 @@ fn tell(marks: &[u32], ranks: &[u32], n: usize, numbers: &mut [u16])
         × (max_records ≤ length ranks.now) × (n ≤ max_records) × (n ≤ length numbers.old) }
     ensures { numbers.new ≡ over (new_numbers (in_use marks.now) n) numbers.old }
 {
-    let mut i = 0;
-    while i < n {
+    for i in 0..n {
         let mut number = NO_NUMBER;
         if marks[i] != WITHDRAWN_MARK {
             number = ranks[i] as u16;
         }
         numbers[i] = number;
-        i += 1;
     }
 }
 
@@ -67,10 +63,8 @@ fn rename(words: &mut [u32], count: usize, ranks: &[u32])
     requires { (count ≤ length words.old) × Small ranks.now }
     ensures { words.new ≡ map (renamed_word (new_of ranks.now)) (take count words.old) ++ drop count words.old }
 {
-    let mut i = 0;
-    while i < count {
+    for i in 0..count {
         words[i] = renamed(words[i], ranks);
-        i += 1;
     }
 }
 
@@ -80,12 +74,10 @@ fn moved(marks: &[u32], ranks: &[u32], n: usize) -> [u32; book::MAX_RECORDS]
     ensures { Moved marks.now ranks.now n result }
 {
     let mut moved: [u32; book::MAX_RECORDS] = [FREE_MARK; book::MAX_RECORDS];
-    let mut i = 0;
-    while i < n {
+    for i in 0..n {
         if marks[i] == LOCK_MARK {
             moved[ranks[i] as usize] = LOCK_MARK;
         }
-        i += 1;
     }
     moved
 }

@@ -47,8 +47,7 @@ impl Register {
         let mut marks = self.marks;
         let mut ring = self.ring;
         let mut totals = self.totals;
-        let mut i = 0;
-        while i < calls.len() {
+        for i in 0..calls.len() {
             let edited = edit_word(
                 counters,
                 &mut links,
@@ -66,7 +65,6 @@ impl Register {
                 };
             }
             counters = edited.counters;
-            i += 1;
         }
         Applied {
             register: Register {

@@ -102,14 +102,12 @@ fn lists_fit(words: &[u64], length: usize) -> bool
     ensures { result ≡ leb (max_records * closings (calls_of words.now)) length }
 {
     let mut left = length;
-    let mut i = 0;
-    while i < words.len() {
+    for i in 0..words.len() {
         let need = list_words(words[i]);
         if left < need {
             return false;
         }
         left = left - need;
-        i += 1;
     }
     true
 }
@@ -162,15 +160,13 @@ pub fn replay(n: u16, words: &[u64], told: &mut [u32], numbers: &mut [u16]) -> O
         };
     }
     let mut at = 0;
-    let mut i = 0;
-    while i < words.len() {
+    for i in 0..words.len() {
         let word = words[i];
         let out = register.step(word, &mut numbers[at..]);
         let answer = out.answer;
         told[i] = number_of(answer);
         register = out.register;
         at += list_words(word);
-        i += 1;
     }
     Outcome {
         register,

@@ -34,14 +34,12 @@ pub fn links_apart(links: &[u32], record: u16, to: &mut [u32]) -> usize
     ensures { (result ≤ length links.now) × (take result to.new ≡ filter (apart_word «record») links.now) }
 {
     let mut kept = 0;
-    let mut i = 0;
-    while i < links.len() {
+    for i in 0..links.len() {
         let word = links[i];
         to[kept] = word;
         if stands_apart(word, record) {
             kept += 1;
         }
-        i += 1;
     }
     kept
 }
@@ -60,8 +58,7 @@ fn keep_apart(words: &mut [u32], count: usize, record: u16, totals: [u32; book::
 {
     let mut left = totals;
     let mut kept = 0;
-    let mut i = 0;
-    while i < count {
+    for i in 0..count {
         let word = words[i];
         if stands_apart(word, record) {
             words[kept] = word;
@@ -70,7 +67,6 @@ fn keep_apart(words: &mut [u32], count: usize, record: u16, totals: [u32; book::
             let less = lowered(left, word);
             left = less;
         }
-        i += 1;
     }
     Rest {
         count: kept,

@@ -73,12 +73,10 @@ fn marked(words: &[u32]) -> bool
     ensures { Tested (Marked words.now) result }
 {
     let mut ok = true;
-    let mut i = 0;
-    while i < words.len() {
+    for i in 0..words.len() {
         if WITHDRAWN_MARK < words[i] {
             ok = false;
         }
-        i += 1;
     }
     ok
 }

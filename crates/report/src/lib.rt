@@ -128,10 +128,8 @@ pub fn put_pairs(total: u64, words: &[u32], out: &mut [u8], at: usize) -> usize
     ensures { Wrote at (pairs_text total words.now) out.old out.new result }
 {
     let mut end = put_counted(b"pairs ", total, out, at);
-    let mut i = 0;
-    while i < words.len() {
+    for i in 0..words.len() {
         end = put_pair(words[i], out, end);
-        i += 1;
     }
     end
 }
@@ -141,10 +139,8 @@ pub fn put_chain(words: &[u32], out: &mut [u8], at: usize) -> usize
     ensures { Wrote at (chain_text words.now) out.old out.new result }
 {
     let mut end = put_counted(b"chain ", words.len() as u64, out, at);
-    let mut i = 0;
-    while i < words.len() {
+    for i in 0..words.len() {
         end = put_step(words[i], out, end);
-        i += 1;
     }
     end
 }

@@ -87,10 +87,8 @@ pub fn record_row(records: &[u16]) -> [u64; RECORD_WORDS]
     ensures { (length result ≡ 16) × Members records.now (bit_at result) }
 {
     let mut row: [u64; RECORD_WORDS] = [0; RECORD_WORDS];
-    let mut i = 0;
-    while i < records.len() {
+    for i in 0..records.len() {
         bits::set_bit(&mut row, records[i] as usize);
-        i += 1;
     }
     row
 }

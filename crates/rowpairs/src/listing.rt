@@ -56,10 +56,8 @@ fn write_links(words: &[u32], list: &mut [u32])
         ++ drop (length (map link_pair words.now)) list.old }
 {
     let count = lesser(words.len(), list.len());
-    let mut i = 0;
-    while i < count {
+    for i in 0..count {
         list[i] = words[i] % LABEL_UNIT;
-        i += 1;
     }
 }
 

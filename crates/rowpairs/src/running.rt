@@ -67,15 +67,13 @@ fn put_letters(
         → first n w cells.new masks.new
         ≡ union (first n w cells.old masks.old) (crossed_by (asked b) (letters_in forward against)) }
 {
-    let mut label: u8 = 0;
-    while label < LABELS {
+    for label in 0u8..LABELS {
         let plain = every_if(forward, label);
         let inverted = every_if(against, label);
         if plain + inverted != 0 {
             let part = register::label_part(links, label);
             grid::put_letters(part, plain, inverted, cells, masks, n, w);
         }
-        label += 1;
     }
 }
 
@@ -237,10 +235,8 @@ fn copy_masks(from: &[u16], to: &mut [u16], n: usize)
     requires { (n ≤ length from.now) × (n ≤ length to.old) }
     ensures { (k : ℕ) → k < n → get_or to.new k 0 ≡ get_or from.now k 0 }
 {
-    let mut i = 0;
-    while i < n {
+    for i in 0..n {
         to[i] = from[i];
-        i += 1;
     }
 }
 

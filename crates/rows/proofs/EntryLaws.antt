@@ -1,23 +1,27 @@
 -- Laws of the list of occupied rows: as it is built, a row at a time, and its entries.
 --   row-at, row_end  the row of an entry, and of the place after the last
+--   row_front, masks_front
+--                    the front of a list has the same entries
 --   occupied_none    no row looked at, none listed
 --   entries_skip, entries_add
 --                    row i passed, as it is empty, or put in as an entry
 --   masks_add        the entry has the row's mask
 -- Assumes nothing.
-use mathlib.Core.Path.{◌≡◌, sym, ap, ◌∙◌, subst}
+use mathlib.Core.Path.{◌≡◌, sym, ap, ◌∙◌, subst, fun_ext}
 use mathlib.Core.List.{List}
-use Prim.Native.Nat.{ℕ, ◌+◌, ◌/◌, ◌%◌, ◌≤◌, ◌<◌}
-use native.Mathlib.Decide.{dec_lt, ℕ_discrete}
+use Prim.Native.Nat.{ℕ, ◌+◌, ◌≤◌, ◌<◌}
+use native.Mathlib.Decide.{dec_lt}
 use native.Mathlib.Omega.{arith}
-use lib.ListN.{length, get_or, set}
-use lib.Seq.{get_or-set_same, get_or-set_other}
+use lib.ListN.{length, get_or, set, take}
+use lib.Seq.{get_or-set_same, get_or-set_other, get_or-take}
 use borrow.Author.Tests.{lt-ltb, le-ltb}
-use Rattle.rows.specs.Steps.{EmptyRow, Masked, row_at, Occupied, Masks}
+use borrow.Author.Count.{below_more}
+use Rattle.rows.specs.declared.entry.Entry.{Entry}
+use Rattle.rows.specs.Steps.{EmptyRow, Masked, past_end, row_at, Occupied, Masks}
 
 -- ---- an entry's row
-module _ (n m : ℕ) (l : List ℕ) where
-  pub row-at : (t : ℕ) → t < m → row_at n m l t ≡ get_or l t 0 % 1024
+module _ (n m : ℕ) (l : List Entry) where
+  pub row-at : (t : ℕ) → t < m → row_at n m l t ≡ (get_or l t past_end).row
   unfolding row_at
   row-at t h = rw (lt-ltb t m h)
 
@@ -25,8 +29,20 @@ module _ (n m : ℕ) (l : List ℕ) where
   unfolding row_at
   row_end = rw (le-ltb m m (omega arith))
 
+-- the front of a list has the same entries
+pub row_front : (n m : ℕ) (l : List Entry) → row_at n m (take m l) ≡ row_at n m l
+unfolding row_at
+row_front n m l = fun_ext (λ t. go t (dec_lt t m))
+  where
+    go : (t : ℕ) → Dec (t < m) → row_at n m (take m l) t ≡ row_at n m l t
+    go t (yes h) = rw (get_or-take m l t past_end h)
+    go t (no h) = let z : (t < m → ⊥) = h in rw (le-ltb t m (omega (arith, z)))
+
+pub masks_front : (f : ℕ → ℕ) (m : ℕ) (l : List Entry) → Masks f m l → Masks f m (take m l)
+masks_front f m l g t h = rw (get_or-take m l t past_end h) (g t h)
+
 -- ---- the rows below i listed, row i next
-pub occupied_none : (f : ℕ → ℕ) (l : List ℕ) → Occupied f 0 (row_at 0 0 l) 0
+pub occupied_none : (f : ℕ → ℕ) (l : List Entry) → Occupied f 0 (row_at 0 0 l) 0
 occupied_none f l = record {
   first = λ i h. absurd (omega (arith, row_end 0 0 l));
   gap = λ t h. absurd (omega arith);
@@ -106,22 +122,20 @@ module _ (f : ℕ → ℕ) (i m : ℕ) (r s : ℕ → ℕ) (O : Occupied f i r m
       rise t h (no g) = let w = end t h g in omega (arith, w.0, w.1)
 
 -- ---- the same of lists: row i passed, or put in as the entry v
-module _ (f : ℕ → ℕ) (i m : ℕ) (l : List ℕ) (O : Occupied f i (row_at i m l) m) where
+module _ (f : ℕ → ℕ) (i m : ℕ) (l : List Entry) (O : Occupied f i (row_at i m l) m) where
   pub entries_skip : EmptyRow f i → Occupied f (i + 1) (row_at (i + 1) m l) m
   entries_skip z =
       occupied_skip f i m (row_at i m l) (row_at (i + 1) m l) O (λ t h. row-at (i + 1) m l t h ∙ sym (row-at i m l t h)) z (row_end (i + 1) m l)
 
-  pub entries_add : (v : ℕ) → m < length l → v % 1024 ≡ i → Occupied f (i + 1) (row_at (i + 1) (m + 1) (set l m v)) (m + 1)
+  pub entries_add : (v : Entry) → m < length l → v.row ≡ i → Occupied f (i + 1) (row_at (i + 1) (m + 1) (set l m v)) (m + 1)
   entries_add v h e =
       occupied_add f i m (row_at i m l) (row_at (i + 1) (m + 1) (set l m v)) O
       (λ t g. row-at (i + 1) (m + 1) (set l m v) t (omega arith)
-      ∙ ap (λ (w : ℕ). w % 1024) (get_or-set_other l m t v 0 (λ s. omega arith)) ∙ sym (row-at i m l t g))
-      (row-at (i + 1) (m + 1) (set l m v) m (omega arith) ∙ ap (λ (w : ℕ). w % 1024) (get_or-set_same l m v 0 h) ∙ e)
+      ∙ ap (λ (w : Entry). w.row) (get_or-set_other l m t v past_end (λ s. omega arith)) ∙ sym (row-at i m l t g))
+      (row-at (i + 1) (m + 1) (set l m v) m (omega arith) ∙ ap (λ (w : Entry). w.row) (get_or-set_same l m v past_end h) ∙ e)
       (row_end (i + 1) (m + 1) (set l m v))
 
-pub masks_add : (f : ℕ → ℕ) (m v : ℕ) (l : List ℕ) → m < length l → Masks f m l → Masked f (v % 1024) (v / 1024) → Masks f (m + 1) (set l m v)
-masks_add f m v l h g a t lt = go (ℕ_discrete t m)
-  where
-    go : Dec (t ≡ m) → Masked f (get_or (set l m v) t 0 % 1024) (get_or (set l m v) t 0 / 1024)
-    go (yes p) = rw (p, get_or-set_same l m v 0 h) a
-    go (no p) = let z : (t ≡ m → ⊥) = p in rw (get_or-set_other l m t v 0 p) (g t (omega (arith, z)))
+pub masks_add : (f : ℕ → ℕ) (m : ℕ) (v : Entry) (l : List Entry) → m < length l → Masks f m l → Masked f v.row v.squares → Masks f (m + 1) (set l m v)
+masks_add f m v l h g a =
+    below_more (λ (t : ℕ). Masked f (get_or (set l m v) t past_end).row (get_or (set l m v) t past_end).squares) m
+    (λ t k. rw (get_or-set_other l m t v past_end (λ s. omega arith)) (g t k)) (rw (get_or-set_same l m v past_end h) a)

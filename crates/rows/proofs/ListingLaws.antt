@@ -1,33 +1,28 @@
 -- Laws of listing: the places of the bits of rows, word by word, and what is written of them.
---   places_hit, places_length, places_first, places_longer
---                         the places of the bits: one more, how many, and that they go on
+--   places_length, places_first
+--                         how many places of bits there are, and that they go on
+--   placed a f n          the places of the bits 0 to n - 1 of f, from place a on
+--   placed_taken, placed_none, placed_word
+--                         the lowest bit of a word is the first place; a word of 0 has none; the places up to a word, and those in it
 --   Wrote l e now         the list that held e holds l, and then what was there
---   wrote_one, wrote_again, wrote_on, wrote_all, wrote_full
---                         one number more; a list begun again, and gone on with; all of it; as much as there is room for
---   bit_found, bits_gone  the bits of a word, lowest first: the next one, and none left
+--   wrote_one, wrote_full
+--                         one number more; as much as there is room for
 -- Assumes nothing.
 use mathlib.Core.Path.{◌≡◌, refl, sym, ap, ap₂, ◌∙◌}
 use mathlib.Core.List.{List, [], ◌∷◌, ◌++◌, append-nil, append_assoc}
-use Prim.Native.Nat.{ℕ, zero, suc, ◌+◌, ◌-◌, ◌*◌, ◌/◌, ◌^◌, ◌≤◌, ◌<◌}
+use Prim.Native.Nat.{ℕ, zero, suc, ◌+◌, ◌-◌, ◌*◌, ◌≤◌, ◌<◌}
 use native.Mathlib.Nat.{add-zero, add-suc}
 use native.Mathlib.Numerals.{add-one}
-use native.Mathlib.Decide.{dec_lt}
 use native.Mathlib.Omega.{arith}
-use lib.Count.{count_trailing_zeros}
 use lib.ListN.{length, get_or, set, take, drop, length-append, drop_of_length-le}
-use lib.Pow.{shr-shr}
-use lib.Seq.{drop-cons, drop-drop, set_at, take_at, drop_at, take_all}
-use Rattle.k2.specs.Bits.{bit_at, ones_below}
-use Rattle.k2.specs.BitLaws.{Bits}
+use lib.Seq.{drop-cons, set_at, take_at}
+use Rattle.k2.specs.Bits.{digit, bit_at, ones_below}
+use Rattle.k2.specs.DigitLaws.{digit_none}
+use Rattle.k2.specs.BitLaws.{Bits, bit_in}
 use Rattle.k2.specs.PairSets.{if_set}
-use Rattle.bits.specs.BitSets.{Gap, Next}
-use Rattle.bits.specs.ScanLaws.{rest_inside, next_here, gap_rest}
+use Rattle.bits.specs.BitSets.{LowestTaken}
+use Rattle.bits.specs.ScanLaws.{taken_gone, taken_other}
 use Rattle.rows.specs.Rows.{places}
-use Rattle.rows.specs.RowLaws.{places_gap}
-
-pub places_hit : (f : ℕ → ℕ) (p : ℕ) → f p ≡ 1 → places f (p + 1) ≡ places f p ++ (p ∷ [])
-unfolding places
-places_hit f p e = rw (add-one, e)
 
 pub places_length : (f : ℕ → ℕ) → Bits f → (n : ℕ) → length (places f n) ≡ ones_below f n
 unfolding places ones_below
@@ -39,23 +34,59 @@ places_length f b (suc n) = length-append (places f n) (if_set (f n) n) ∙ ap�
     one (suc zero) h = refl
     one (suc (suc v)) h = absurd (omega arith)
 
-places_more : (f : ℕ → ℕ) (p d : ℕ) → (rest : List ℕ) × (places f (p + d) ≡ places f p ++ rest)
-unfolding places
-places_more f p zero = ([], ap (places f) (add-zero p) ∙ sym (append-nil (places f p)))
-places_more f p (suc d) =
-    let r = places_more f p d in (
-      r.0 ++ if_set (f (p + d)) (p + d),
-      ap (places f) (add-suc p d) ∙ ap (λ (l : List ℕ). l ++ if_set (f (p + d)) (p + d)) r.1 ∙ append_assoc (places f p) r.0 (if_set (f (p + d)) (p + d)),
-    )
+-- ---- the places of a word's bits
+unfoldable pub placed : ℕ → (ℕ → ℕ) → ℕ → List ℕ
+placed a f zero = []
+placed a f (suc n) = placed a f n ++ if_set (f n) (a + n)
+
+-- the places below a, and n more
+placed_on : (f g : ℕ → ℕ) (a n : ℕ) → ((k : ℕ) → k < n → f (a + k) ≡ g k) → places f (a + n) ≡ places f a ++ placed a g n
+unfolding places placed
+placed_on f g a zero h = ap (places f) (add-zero a) ∙ sym (append-nil (places f a))
+placed_on f g a (suc n) h =
+    ap (places f) (add-suc a n)
+    ∙ ap₂ (λ (l : List ℕ) (v : ℕ). l ++ if_set v (a + n)) (placed_on f g a n (λ k b. h k (omega arith))) (h n (omega arith))
+    ∙ append_assoc (places f a) (placed a g n) (if_set (g n) (a + n))
 
 pub places_first : (f : ℕ → ℕ) (p q : ℕ) → p ≤ q → (rest : List ℕ) × (places f q ≡ places f p ++ rest)
 places_first f p q l =
     let e : q ≡ p + (q - p) = omega arith in
-    let r = places_more f p (q - p) in
-    (r.0, ap (places f) e ∙ r.1)
+    (placed p (λ k. f (p + k)) (q - p), ap (places f) e ∙ placed_on f (λ k. f (p + k)) p (q - p) (λ k h. refl))
 
-pub places_longer : (f : ℕ → ℕ) (p q : ℕ) → p ≤ q → length (places f p) ≤ length (places f q)
-places_longer f p q l = let r = places_first f p q l in omega (arith, ap length r.1, length-append (places f p) r.0)
+pub placed_word : (ws : List ℕ) (q : ℕ) → places (bit_at ws) ((q + 1) * 64) ≡ places (bit_at ws) (q * 64) ++ placed (q * 64) (digit (get_or ws q 0)) 64
+placed_word ws q =
+    let e : (q + 1) * 64 ≡ q * 64 + 64 = omega arith in
+    ap (places (bit_at ws)) e ∙ placed_on (bit_at ws) (digit (get_or ws q 0)) (q * 64) 64 (λ k h. bit_in ws q k h)
+
+no_place : (a : ℕ) (f : ℕ → ℕ) (n : ℕ) → ((k : ℕ) → k < n → f k ≡ 0) → placed a f n ≡ []
+unfolding placed
+no_place a f zero h = refl
+no_place a f (suc n) h = rw (h n (omega arith), no_place a f n (λ k l. h k (omega arith)))
+
+pub placed_none : (a w : ℕ) → w ≡ 0 → placed a (digit w) 64 ≡ []
+placed_none a w e = no_place a (digit w) 64 (λ k l. rw e (digit_none k))
+
+-- the lowest bit of a word is the first of its places
+module _ (a : ℕ) {w p v : ℕ} (T : LowestTaken w p v) where
+  taken_first : placed a (digit w) (suc p) ≡ (a + p) ∷ []
+  unfolding placed
+  taken_first = rw (no_place a (digit w) p (λ k h. T.gap k (omega arith) h), T.hit)
+
+  left_none : placed a (digit v) (suc p) ≡ []
+  unfolding placed
+  left_none = rw (no_place a (digit v) p (λ k h. taken_other T k (omega arith) ∙ T.gap k (omega arith) h), taken_gone T)
+
+  taken_on : (d : ℕ) → placed a (digit w) (suc p + d) ≡ (a + p) ∷ placed a (digit v) (suc p + d)
+  unfolding placed
+  taken_on zero = rw (add-zero) (taken_first ∙ ap (λ (l : List ℕ). (a + p) ∷ l) (sym left_none))
+  taken_on (suc d) =
+      rw (add-suc, taken_other T (suc p + d) (omega arith))
+      (ap (λ (l : List ℕ). l ++ if_set (digit w (suc p + d)) (a + (suc p + d))) (taken_on d))
+
+  pub placed_taken : placed a (digit w) 64 ≡ (a + p) ∷ placed a (digit v) 64
+  placed_taken =
+      let s : 64 ≡ suc p + (63 - p) = omega (arith, T.small) in
+      ap (placed a (digit w)) s ∙ taken_on (63 - p) ∙ ap (λ (n : ℕ). (a + p) ∷ placed a (digit v) n) (sym s)
 
 -- ---- written
 abbrev pub Wrote : List ℕ → List ℕ → List ℕ → Type 0
@@ -68,25 +99,6 @@ wrote_one l e now v h w =
     ∙ set_at l (get_or e (length l) 0) (drop (suc (length l)) e) v (length l) refl
     ∙ sym (append_assoc l (v ∷ []) (drop (length (l ++ (v ∷ []))) e) ∙ ap (λ (k : ℕ). l ++ v ∷ drop k e) n)
 
--- a list begun again, and gone on with
-pub wrote_again : (l e now : List ℕ) → Wrote l e now → Wrote l now now
-wrote_again l e now w =
-    let d : drop (length l) now ≡ drop (length l) e = ap (drop (length l)) w ∙ drop_at l (drop (length l) e) (length l) refl in
-    w ∙ ap (λ (t : List ℕ). l ++ t) (sym d)
-
-pub wrote_on : (k l e mid now : List ℕ) → length k ≤ length l → Wrote k e mid → Wrote l mid now → Wrote l e now
-wrote_on k l e mid now h v w =
-    let s : length l ≡ length k + (length l - length k) = omega arith in
-    let d : drop (length l) mid ≡ drop (length l) e =
-    ap (λ (t : ℕ). drop t mid) s ∙ sym (drop-drop (length l - length k) (length k) mid)
-    ∙ ap (λ (t : List ℕ). drop (length l - length k) t) (ap (drop (length k)) v ∙ drop_at k (drop (length k) e) (length k) refl)
-    ∙ drop-drop (length l - length k) (length k) e ∙ ap (λ (t : ℕ). drop t e) (sym s) in
-    w ∙ ap (λ (t : List ℕ). l ++ t) d
-
--- all of it
-pub wrote_all : (l e now : List ℕ) → length l ≤ length e → Wrote l e now → now ≡ take (length e) l ++ drop (length l) e
-wrote_all l e now h w = w ∙ ap (λ (t : List ℕ). t ++ drop (length l) e) (sym (take_all (length e) l h))
-
 -- as much as there is room for
 pub wrote_full : (l m e now rest : List ℕ) → length l ≡ length e → m ≡ l ++ rest → Wrote l e now → now ≡ take (length e) m ++ drop (length m) e
 wrote_full l m e now rest h s w =
@@ -94,28 +106,3 @@ wrote_full l m e now rest h s w =
     w ∙ ap₂ (λ (u v : List ℕ). u ++ v)
     (sym (ap (take (length e)) s ∙ take_at l rest (length e) h))
     (drop_of_length-le e {i = length l} (omega arith) ∙ sym (drop_of_length-le e {i = length m} (omega arith)))
-
--- ---- the bits of a word, lowest first: rest is what is left of word q from place p on
-module _ (ws : List ℕ) (q p : ℕ) (low : q * 64 ≤ p) (fits : get_or ws q 0 < 2 ^ 64) where
-  pub bit_found : (r k : ℕ) → r ≡ get_or ws q 0 / 2 ^ (p - q * 64) → 0 < r → k ≡ count_trailing_zeros 64 r
-      → (p + k < q * 64 + 64) × (places (bit_at ws) (p + k + 1) ≡ places (bit_at ws) p ++ ((p + k) ∷ []))
-      × (r / 2 ^ k / 2 ≡ get_or ws q 0 / 2 ^ (p + k + 1 - q * 64))
-  bit_found r k e h t =
-      let s : ℕ = p - q * 64 in
-      let z : 0 < get_or ws q 0 / 2 ^ s = rw e at h in
-      let u : k ≡ count_trailing_zeros 64 (get_or ws q 0 / 2 ^ s) = t ∙ ap (count_trailing_zeros 64) e in
-      let i : p + k < q * 64 + 64 = omega (arith, rest_inside ws q s fits z) in
-      let N : Next (bit_at ws) p (q * 64 + 64) (p + k) = next_here ws q s fits z p (q * 64 + 64) (p + k) (omega arith) (omega arith) (omega arith) in
-      let g : s + k + 1 ≡ p + k + 1 - q * 64 = omega arith in (
-        i,
-        places_hit (bit_at ws) (p + k) (N.hit i) ∙ ap (λ (l : List ℕ). l ++ ((p + k) ∷ [])) (places_gap (bit_at ws) p (p + k) (omega arith) N.gap),
-        ap (λ (x : ℕ). x / 2 ^ k / 2) e ∙ ap (λ (x : ℕ). x / 2) (shr-shr (get_or ws q 0) s k)
-            ∙ shr-shr (get_or ws q 0) (s + k) 1 ∙ ap (λ (x : ℕ). get_or ws q 0 / 2 ^ x) g,
-      )
-
-  pub bits_gone : p ≤ q * 64 + 64 → get_or ws q 0 / 2 ^ (p - q * 64) ≡ 0 → places (bit_at ws) ((q + 1) * 64) ≡ places (bit_at ws) p
-  bits_gone h z = places_gap (bit_at ws) p ((q + 1) * 64) (omega arith) (go (dec_lt p (q * 64 + 64)))
-    where
-      go : Dec (p < q * 64 + 64) → Gap (bit_at ws) p ((q + 1) * 64)
-      go (yes l) = gap_rest ws q (p - q * 64) p (omega arith) (omega arith) z
-      go (no l) = λ k a b. absurd (omega arith)

@@ -1,39 +1,28 @@
--- Laws of loops that write words in place, in turn: the words from i on are still those of the start (Written); and of one that stores a row's
--- words (Stored). Assumes nothing.
+-- Laws of words written in place: each made anew of itself and of another's, and a row's words stored. Assumes nothing.
 use mathlib.Core.Path.{◌≡◌, refl, sym, ap, ◌∙◌, fun_ext}
 use mathlib.Core.List.{List}
-use Prim.Native.Nat.{ℕ, ◌+◌, ◌*◌, ◌/◌, ◌%◌, ◌≤◌, ◌<◌}
-use native.Mathlib.Decide.{ℕ_discrete}
+use Prim.Native.Nat.{ℕ, ◌+◌, ◌-◌, ◌*◌, ◌/◌, ◌%◌, ◌≤◌, ◌<◌}
+use native.Mathlib.Decide.{dec_lt}
 use native.Mathlib.Omega.{arith}
-use lib.ListN.{length, get_or, set, length-set}
-use lib.Seq.{get_or-set_same, get_or-set_other}
+use lib.ListN.{length, get_or, take, drop, get_or-append}
+use lib.Seq.{length-take-le, get_or-take, get_or-drop}
+use Rattle.std.proofs.lemmas.List.{get_or-append_right}
 use borrow.Author.Tests.{eq-eqb, ne_eqb}
+use borrow.Rule.Slice.PartMut.{put_mid}
 use Rattle.k2.specs.Bits.{digit, bit_at}
-use Rattle.k2.specs.BitLaws.{bit_out, Upto, upto_none, upto_more, upto_all}
+use Rattle.k2.specs.BitLaws.{bit_in, bit_out, upto_all}
 use Rattle.bits.specs.BitSets.{both, minus}
 use Rattle.rows.specs.Steps.{with_row}
 
--- ---- words written in place, in turn: those before i hold the bits f, those from i on are as at the start
-pub record Written (f : ℕ → ℕ) (i : ℕ) (a a₀ : List ℕ) : Type 0 where
-  pub kept : length a ≡ length a₀
-  pub front : Upto i (bit_at a) f
-  pub rest : (j : ℕ) → i ≤ j → get_or a j 0 ≡ get_or a₀ j 0
-
-module _ {f : ℕ → ℕ} {a₀ : List ℕ} where
-  pub written_none : Written f 0 a₀ a₀
-  written_none = record { kept = refl; front = upto_none _ _; rest = λ j h. refl }
-
-  -- one word more, made of the one that stands there
-  pub written_more : {i : ℕ} {a : List ℕ} (v : ℕ → ℕ) → i < length a → Written f i a a₀ → ((k : ℕ) → k < 64 → digit (v (get_or a₀ i 0)) k ≡ f (i * 64 + k))
-      → Written f (i + 1) (set a i (v (get_or a i 0))) a₀
-  written_more {i} {a} v h w d = record {
-    kept = simp length-set w.kept;
-    front = upto_more a i _ f h w.front (λ k l. rw (w.rest i (omega arith)) (d k l));
-    rest = λ j l. get_or-set_other a i j _ 0 (λ e. omega arith) ∙ w.rest j (omega arith);
-  }
-
-  pub written_all : {i : ℕ} {a : List ℕ} → length a ≤ i → Written f i a a₀ → ((p : ℕ) → length a₀ ≤ p / 64 → f p ≡ 0) → bit_at a ≡ f
-  written_all {i} {a} h w z = upto_all a i f h w.front (λ p l. z p (omega (arith, w.kept)))
+-- ---- words made anew, so that the bits become f
+pub words_made : (f : ℕ → ℕ) (a₀ a : List ℕ) → length a ≡ length a₀
+    → ((i k : ℕ) → i < length a₀ → k < 64 → digit (get_or a i 0) k ≡ f (i * 64 + k)) → ((p : ℕ) → length a₀ ≤ p / 64 → f p ≡ 0) → bit_at a ≡ f
+words_made f a₀ a l d z =
+    upto_all a (length a₀) f (omega arith)
+    (λ p h.
+    let s : p / 64 * 64 + p % 64 ≡ p = omega arith in
+    ap (bit_at a) (sym s) ∙ bit_in a (p / 64) (p % 64) (omega arith) ∙ d (p / 64) (p % 64) (omega arith) (omega arith) ∙ ap f s)
+    z
 
 -- past the end
 module _ (a b : List ℕ) (p : ℕ) (ha : length a ≤ p / 64) where
@@ -45,42 +34,41 @@ module _ (a b : List ℕ) (p : ℕ) (ha : length a ≤ p / 64) where
   unfolding minus
   minus_out = rw (bit_out a p ha) (omega arith)
 
--- ---- the first s words of a row of 16 stored as row i
-pub record Stored (row ws now : List ℕ) (i s : ℕ) : Type 0 where
-  pub inside : (j : ℕ) → j / 16 ≡ i → j % 16 < s → get_or now j 0 ≡ get_or row (j % 16) 0
-  pub outside : (j : ℕ) → (j / 16 ≡ i → s ≤ j % 16) → get_or now j 0 ≡ get_or ws j 0
+-- ---- ys in the place of as many from i on
+module _ (i : ℕ) (l ys : List ℕ) (long : i + length ys ≤ length l) where
+  put_before : (j : ℕ) → j < i → get_or (put_mid i (length ys) l ys) j 0 ≡ get_or l j 0
+  put_before j h =
+      get_or-append (take i l) _ 0 j (omega (arith, length-take-le i l (omega arith))) ∙ get_or-take i l j 0 h
 
-module _ (row ws : List ℕ) (i : ℕ) where
-  pub stored_none : Stored row ws ws i 0
-  stored_none = record { inside = λ j e l. absurd (omega arith); outside = λ j n. refl }
+  put_at : (j : ℕ) → i ≤ j → j - i < length ys → get_or (put_mid i (length ys) l ys) j 0 ≡ get_or ys (j - i) 0
+  put_at j h k = get_or-append_right (take i l) _ i j 0 (length-take-le i l (omega arith)) h ∙ get_or-append ys _ 0 (j - i) k
 
-  pub stored_more : (now : List ℕ) (s : ℕ) → s < 16 → i * 16 + s < length now → Stored row ws now i s
-      → Stored row ws (set now (i * 16 + s) (get_or row s 0)) i (s + 1)
-  stored_more now s l h g = record { inside = λ j e k. inside j e k (ℕ_discrete (j % 16) s); outside = outside }
-    where
-      inside : (j : ℕ) → j / 16 ≡ i → j % 16 < s + 1 → Dec (j % 16 ≡ s) → get_or (set now (i * 16 + s) (get_or row s 0)) j 0 ≡ get_or row (j % 16) 0
-      inside j e k (yes p) =
-          let q : j ≡ i * 16 + s = omega arith in
-          ap (λ (t : ℕ). get_or (set now (i * 16 + s) (get_or row s 0)) t 0) q
-          ∙ get_or-set_same now (i * 16 + s) (get_or row s 0) 0 h ∙ ap (λ (t : ℕ). get_or row t 0) (sym p)
-      inside j e k (no p) =
-          let z : (j % 16 ≡ s → ⊥) = p in
-          get_or-set_other now (i * 16 + s) j (get_or row s 0) 0 (λ q. p (omega arith)) ∙ g.inside j e (omega (arith, z))
+  put_after : (j : ℕ) → i + length ys ≤ j → get_or (put_mid i (length ys) l ys) j 0 ≡ get_or l j 0
+  put_after j h =
+      let e : i + (length ys + (j - i - length ys)) ≡ j = omega arith in
+      get_or-append_right (take i l) _ i j 0 (length-take-le i l (omega arith)) (omega arith)
+      ∙ get_or-append_right ys _ (length ys) (j - i) 0 refl (omega arith)
+      ∙ get_or-drop (length ys) (drop i l) (j - i - length ys) 0 ∙ get_or-drop i l (length ys + (j - i - length ys)) 0 ∙ ap (λ (t : ℕ). get_or l t 0) e
 
-      outside : (j : ℕ) → (j / 16 ≡ i → s + 1 ≤ j % 16) → get_or (set now (i * 16 + s) (get_or row s 0)) j 0 ≡ get_or ws j 0
-      outside j n =
-          get_or-set_other now (i * 16 + s) j (get_or row s 0) 0 (λ q. omega (arith, n (omega arith)))
-          ∙ g.outside j (λ e. omega (arith, n e))
+-- ---- a row of 16 words stored as row i
+pub row_stored : (row ws : List ℕ) (i : ℕ) → length row ≡ 16 → i * 16 + 16 ≤ length ws
+    → bit_at (put_mid (i * 16) (length row) ws row) ≡ with_row i (bit_at row) (bit_at ws)
+unfolding with_row bit_at
+row_stored row ws i l h = fun_ext (λ p. go p (dec_lt (p / 64) (i * 16)) (dec_lt (p / 64) (i * 16 + 16)))
+  where
+    now : List ℕ
+    now = put_mid (i * 16) (length row) ws row
 
-  pub stored_all : (now : List ℕ) → Stored row ws now i 16 → bit_at now ≡ with_row i (bit_at row) (bit_at ws)
-  unfolding with_row bit_at
-  stored_all now g = fun_ext (λ p. go p (ℕ_discrete (p / 1024) i))
-    where
-      go : (p : ℕ) → Dec (p / 1024 ≡ i) → bit_at now p ≡ with_row i (bit_at row) (bit_at ws) p
-      go p (yes e) =
-          let a : p / 64 % 16 ≡ p % 1024 / 64 = omega arith in
-          let b : p % 1024 % 64 ≡ p % 64 = omega arith in
-          rw (eq-eqb (p / 1024) i e, b) (ap (λ (w : ℕ). digit w (p % 64)) (g.inside (p / 64) (omega arith) (omega arith) ∙ ap (λ (t : ℕ). get_or row t 0) a))
-      go p (no e) =
-          let z : (p / 1024 ≡ i → ⊥) = e in
-          rw (ne_eqb (p / 1024) i e) (ap (λ (w : ℕ). digit w (p % 64)) (g.outside (p / 64) (λ q. absurd (omega (arith, z)))))
+    other : (p : ℕ) → (p / 1024 ≡ i → ⊥) → get_or now (p / 64) 0 ≡ get_or ws (p / 64) 0 → bit_at now p ≡ with_row i (bit_at row) (bit_at ws) p
+    other p n e = rw (ne_eqb (p / 1024) i n) (ap (λ (w : ℕ). digit w (p % 64)) e)
+
+    go : (p : ℕ) → Dec (p / 64 < i * 16) → Dec (p / 64 < i * 16 + 16) → bit_at now p ≡ with_row i (bit_at row) (bit_at ws) p
+    go p (yes a) b = other p (λ q. omega arith) (put_before (i * 16) ws row (omega arith) (p / 64) a)
+    go p (no a) (no b) = other p (λ q. omega arith) (put_after (i * 16) ws row (omega arith) (p / 64) (omega arith))
+    go p (no a) (yes b) =
+        let e : p / 1024 ≡ i = omega arith in
+        let f : p / 64 - i * 16 ≡ p % 1024 / 64 = omega arith in
+        let g : p % 1024 % 64 ≡ p % 64 = omega arith in
+        rw (eq-eqb (p / 1024) i e, g)
+        (ap (λ (w : ℕ). digit w (p % 64))
+        (put_at (i * 16) ws row (omega arith) (p / 64) (omega arith) (omega arith) ∙ ap (λ (t : ℕ). get_or row t 0) f))

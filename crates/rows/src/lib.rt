@@ -1,8 +1,11 @@
 // Sets of pairs of records below 1,024 as rows of bits, and their algebra: 1,024 rows of 16 words, so that bit p of the rows is the pair
 // word p, from * 1024 + to. A square of a row is one of its words: 64 columns.
+// Rows are slices and no type of their own, whose length each contract asks for: they are parts of lent work.
 #![tactic(auto)]
 
-ghost use Rattle.std.specs.Prelude.{◌≡◌, true, ◌++◌, ℕ, ◌/◌, ◌≤◌, ◌<◌, eqb, length, take, drop};
+mod entry;
+
+ghost use Rattle.std.specs.Prelude.{◌≡◌, true, ◌++◌, ℕ, ◌/◌, ◌≤◌, ◌<◌, eqb, length, take, drop, get_or};
 ghost use Rattle.book.specs.Causes.{max_records};
 ghost use Rattle.k2.specs.Sizes.{rows_words};
 ghost use Rattle.k2.specs.Bits.{digit, bit_at};
@@ -12,13 +15,12 @@ ghost use Rattle.rows.specs.Rows.{flat};
 ghost use Rattle.rows.specs.RowSets.{no_pairs, crossed_words, RowsOf, pairs_in};
 ghost use Rattle.rows.specs.Steps.{Masked, row_at, Occupied, Masks, Common, served, below, with_row, Serving, Multiplying};
 
+use entry::Entry;
+
 // A row has as many columns as there may be records; and so many cells are there in all.
 const COLUMNS: usize = book::MAX_RECORDS;
 
 const CELLS: usize = COLUMNS * COLUMNS;
-
-// An entry of a search is a mask times this, and a record.
-const ENTRY_UNIT: u32 = COLUMNS as u32;
 
 // The pairs of a that b lacks taken out of a.
 pub fn intersect(a: &mut [u64], b: &[u64])
@@ -26,11 +28,7 @@ pub fn intersect(a: &mut [u64], b: &[u64])
     ensures { (x y : Cells) → bit_at a.old ≡ flat x → bit_at b.now ≡ flat y
         → bit_at a.new ≡ flat (intersection x y) }
 {
-    let mut i = 0;
-    while i < k2::ROWS_WORDS {
-        a[i] = a[i] & b[i];
-        i += 1;
-    }
+    each_word(a, b, |v, w| v & w);
 }
 
 // The pairs of b taken out of a.
@@ -39,10 +37,16 @@ pub fn minus(a: &mut [u64], b: &[u64])
     ensures { (x y : Cells) → bit_at a.old ≡ flat x → bit_at b.now ≡ flat y
         → bit_at a.new ≡ flat (difference x y) }
 {
-    let mut i = 0;
-    while i < k2::ROWS_WORDS {
-        a[i] = a[i] & !b[i];
-        i += 1;
+    each_word(a, b, |v, w| v & !w);
+}
+
+// Each word of a made anew of itself and of the word of b at its place.
+fn each_word<F: Fn(u64, u64) -> u64>(a: &mut [u64], b: &[u64], made: F)
+    requires { (length a.old ≡ length b.now) × F.IsAlwaysCallable made }
+    ensures { (i : ℕ) → i < length a.old → F.post made (get_or a.old i 0) (get_or b.now i 0) (get_or a.new i 0) }
+{
+    for (i, w) in b.iter().enumerate() {
+        a[i] = made(a[i], *w);
     }
 }
 
@@ -51,11 +55,7 @@ pub fn clear(rows: &mut [u64])
     requires { length rows.old ≡ rows_words }
     ensures { bit_at rows.new ≡ flat no_pairs }
 {
-    let mut i = 0;
-    while i < k2::ROWS_WORDS {
-        rows[i] = 0;
-        i += 1;
-    }
+    bits::clear(rows);
 }
 
 // Each record of a set joined to itself; the set is lent as 1,024 bits.
@@ -64,12 +64,10 @@ pub fn set_diagonal(rows: &mut [u64], records: &[u64])
     ensures { (x : Cells) → bit_at rows.old ≡ flat x
         → bit_at rows.new ≡ flat (union x (diagonal (bit_at records.now))) }
 {
-    let mut i = 0;
-    while i < COLUMNS {
+    for i in 0..COLUMNS {
         if bits::bit(records, i) == 1 {
             bits::set_bit(rows, i * COLUMNS + i);
         }
-        i += 1;
     }
 }
 
@@ -77,10 +75,7 @@ pub fn set_diagonal(rows: &mut [u64], records: &[u64])
 pub fn has_label(labels: u32, label: u32) -> bool
     ensures { result ≡ eqb (digit labels label) 1 }
 {
-    if 32 <= label {
-        return false;
-    }
-    (labels >> label) % 2 == 1
+    label < 32 && (labels >> label) % 2 == 1
 }
 
 // The pairs of link words put in: of links whose label is in `forward` as they are, of those whose label is in `against` exchanged. A pair
@@ -90,18 +85,15 @@ pub fn put_letters(words: &[u32], forward: u32, against: u32, rows: &mut [u64])
     ensures { (x : Cells) → bit_at rows.old ≡ flat x
         → bit_at rows.new ≡ flat (union x (crossed_words words.now forward against)) }
 {
-    let mut i = 0;
-    while i < words.len() {
-        let word = words[i];
-        let label = links::label_of(word);
-        let p = links::pair_of(word) as usize;
+    for word in words {
+        let label = links::label_of(*word);
+        let p = links::pair_of(*word) as usize;
         if has_label(forward, label) {
             bits::set_bit(rows, p);
         }
         if has_label(against, label) {
             bits::set_bit(rows, p % COLUMNS * COLUMNS + p / COLUMNS);
         }
-        i += 1;
     }
 }
 
@@ -120,22 +112,14 @@ pub fn write_pairs(rows: &[u64], n: usize, out: &mut [u32])
         ++ drop (length (pairs_in n rows.now)) out.old }
 {
     let mut t = 0;
-    let mut q = 0;
-    while q < n * 16 {
-        let mut p = q * 64;
-        let mut rest = rows[q];
-        while rest != 0 {
+    for (q, word) in rows[..n * 16].iter().enumerate() {
+        for p in bits::SetBits::of(*word) {
             if out.len() <= t {
                 return;
             }
-            let k = u64::trailing_zeros(rest);
-            p += k as usize;
-            out[t] = p as u32;
+            out[t] = (q * 64 + p) as u32;
             t += 1;
-            p += 1;
-            rest = (rest >> k) >> 1;
         }
-        q += 1;
     }
 }
 
@@ -144,13 +128,11 @@ pub fn within(rows: &[u64], n: usize) -> bool
     requires { (n ≤ max_records) × (length rows.now ≡ rows_words) }
     ensures { (result ≡ true → RowsOf n rows.now) × (RowsOf n rows.now → result ≡ true) }
 {
-    let mut i = 0;
-    while i < n {
+    for i in 0..n {
         let end = i * COLUMNS + COLUMNS;
         if bits::next(rows, i * COLUMNS + n, end) < end {
             return false;
         }
-        i += 1;
     }
     bits::next(rows, n * COLUMNS, CELLS) == CELLS
 }
@@ -161,12 +143,10 @@ fn filled_words(row: &[u64]) -> u32
     ensures { (result < 65536) × ((k : ℕ) → k < max_records → digit result (k / 64) ≡ 0 → bit_at row.now k ≡ 0) }
 {
     let mut mask: u32 = 0;
-    let mut s = 0;
-    while s < 16 {
-        if row[s] != 0 {
-            mask = mask | (1 << s);
+    for (s, word) in row.iter().enumerate() {
+        if *word != 0 {
+            mask |= 1 << s;
         }
-        s += 1;
     }
     mask
 }
@@ -179,28 +159,31 @@ pub fn squares(rows: &[u64], i: usize) -> u32
     filled_words(&rows[i * 16..i * 16 + 16])
 }
 
-// The rows below n that are not empty, ascending, each an entry: its squares * 1024 + its number. How many there are.
-fn occupied(rows: &[u64], n: usize, list: &mut [u32]) -> usize
+// The rows below n that are not empty, ascending. They are the front of the list that is lent.
+fn occupied<'a>(rows: &[u64], n: usize, list: &'a mut [Entry]) -> &'a [Entry]
     requires { (n ≤ max_records) × (length rows.now ≡ rows_words) × (length list.old ≡ max_records) }
-    ensures { (result ≤ max_records) × Occupied (bit_at rows.now) n (row_at n result list.new) result
-        × Masks (bit_at rows.now) result list.new }
+    ensures { (length result.now ≤ max_records)
+        × Occupied (bit_at rows.now) n (row_at n (length result.now) result.now) (length result.now)
+        × Masks (bit_at rows.now) (length result.now) result.now }
 {
     let mut m = 0;
-    let mut i = 0;
-    while i < n {
+    for i in 0..n {
         let mask = squares(rows, i);
         if mask != 0 {
-            list[m] = mask * ENTRY_UNIT + i as u32;
+            list[m] = Entry {
+                squares: mask as u16,
+                row: i as u16,
+            };
             m += 1;
         }
-        i += 1;
     }
-    m
+    &list[..m]
 }
 
 // 1 if some middle record serves, that is, row i of a and row j of b have a column in common, else 0. The search goes over the squares, from the
 // first to the last of those in common, and in each over the records of row i from the first of row j on, lowest first, each tried in row j; it is
 // left at the first that serves. A square whose words have no bit in common is passed at once.
+// Two loops by hand, left by a label: the scope names this form for "some middle record serves".
 fn serves(a: &[u64], i: usize, b: &[u64], j: usize, common: u32) -> u64
     requires { Serving a.now i b.now j common }
     ensures { Common (bit_at a.now) (bit_at b.now) i j common
@@ -232,31 +215,21 @@ fn serves(a: &[u64], i: usize, b: &[u64], j: usize, common: u32) -> u64
 
 // Row i of the product: of the columns of the second that the list names, those that serve. One whose squares are not among those of row i
 // is passed at once.
-fn product_row(
-    a: &[u64],
-    i: usize,
-    mask: u32,
-    columns: &[u64],
-    list: &[u32],
-    m: usize,
-    row: &mut [u64],
-)
-    requires { Multiplying a.now i mask columns.now list.now m row.old }
-    ensures { (n : ℕ) → Masked (bit_at a.now) i mask → Occupied (bit_at columns.now) n (row_at n m list.now) m
-        → Masks (bit_at columns.now) m list.now → bit_at row.old ≡ none
+fn product_row(a: &[u64], i: usize, mask: u32, columns: &[u64], list: &[Entry], row: &mut [u64])
+    requires { Multiplying a.now i mask columns.now list.now row.old }
+    ensures { (n : ℕ) → Masked (bit_at a.now) i mask
+        → Occupied (bit_at columns.now) n (row_at n (length list.now) list.now) (length list.now)
+        → Masks (bit_at columns.now) (length list.now) list.now → bit_at row.old ≡ none
         → bit_at row.new ≡ below n (served (bit_at a.now) (bit_at columns.now) i) }
 {
-    let mut t = 0;
-    while t < m {
-        let entry = list[t];
-        let common = mask & (entry / ENTRY_UNIT);
+    for entry in list {
+        let common = mask & entry.squares as u32;
         if common != 0 {
-            let j = (entry % ENTRY_UNIT) as usize;
+            let j = entry.row as usize;
             if serves(a, i, columns, j, common) == 1 {
                 bits::set_bit(row, j);
             }
         }
-        t += 1;
     }
 }
 
@@ -265,11 +238,7 @@ fn store_row(row: &[u64], rows: &mut [u64], i: usize)
     requires { (length row.now ≡ 16) × (length rows.old ≡ rows_words) × (i < max_records) }
     ensures { bit_at rows.new ≡ with_row i (bit_at row.now) (bit_at rows.old) }
 {
-    let mut s = 0;
-    while s < 16 {
-        rows[i * 16 + s] = row[s];
-        s += 1;
-    }
+    rows[i * 16..i * 16 + 16].copy_from_slice(row);
 }
 
 // The product, left in a; the second operand is lent by its columns, transposed. A row of the product depends on that row of a alone.
@@ -278,16 +247,14 @@ pub fn compose(a: &mut [u64], columns: &[u64], n: usize)
     ensures { (x y : Cells) → IsSet n x → IsSet n y → bit_at a.old ≡ flat x → bit_at columns.now ≡ flat (transpose y)
         → bit_at a.new ≡ flat (product n x y) }
 {
-    let mut list: [u32; COLUMNS] = [0; COLUMNS];
-    let m = occupied(columns, n, &mut list);
-    let mut i = 0;
-    while i < n {
+    let mut entries = [Entry { squares: 0, row: 0 }; COLUMNS];
+    let list = occupied(columns, n, &mut entries);
+    for i in 0..n {
         let mask = squares(a, i);
         if mask != 0 {
             let mut row: [u64; 16] = [0; 16];
-            product_row(a, i, mask, columns, &list, m, &mut row);
+            product_row(a, i, mask, columns, list, &mut row);
             store_row(&row, a, i);
         }
-        i += 1;
     }
 }

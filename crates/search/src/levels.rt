@@ -105,8 +105,7 @@ fn commit(
         × ((n : ℕ) → Listed list.now (length list.now) n next.old
         → Committed work.old seen.old next.old mark n work.new seen.new) }
 {
-    let mut i = 0;
-    while i < list.len() {
+    for i in 0..list.len() {
         let at = list[i] as usize;
         let states = next[at];
         stamp(work, at, states, mark);
@@ -114,7 +113,6 @@ fn commit(
         next[at] = 0;
         records[i] = list[i] as u32;
         masks[i] = states;
-        i += 1;
     }
 }
 
@@ -147,8 +145,7 @@ fn backward_by(
     let mut level: u64 = 0;
     while seen[start] % 2 == 0 {
         let mut queued = 0;
-        let mut i = 0;
-        while i < count {
+        for i in 0..count {
             let at = records[i] as usize;
             let states = masks[i];
             let entry = Entry {
@@ -167,7 +164,6 @@ fn backward_by(
                 &mut list,
                 entry,
             );
-            i += 1;
         }
         if queued == 0 {
             return 0;

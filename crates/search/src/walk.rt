@@ -102,8 +102,7 @@ fn forward_by(
     let steps = route.steps;
     let mut at = route.from;
     let mut states: u64 = 1;
-    let mut t = 0;
-    while t < steps {
+    for t in 0..steps {
         let follows = spread(follow, states);
         let distance = (steps - t) as u64;
         let aim = Aim {
@@ -116,7 +115,6 @@ fn forward_by(
         out[t] = choice.word;
         at = (choice.word % arcs::RECORD_UNIT) as usize;
         states = choice.states;
-        t += 1;
     }
 }
 

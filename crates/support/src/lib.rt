@@ -35,12 +35,10 @@ struct FallenList {
 fn beyond(records: &[u16], n: usize) -> bool
     ensures { result ≡ some (leb n) records.now }
 {
-    let mut i = 0;
-    while i < records.len() {
+    for i in 0..records.len() {
         if n <= records[i] as usize {
             return true;
         }
-        i += 1;
     }
     false
 }
@@ -50,14 +48,12 @@ fn ascending(records: &[u16]) -> bool
     ensures { result ≡ orderly 0 records.now }
 {
     let mut least: usize = 0;
-    let mut i = 0;
-    while i < records.len() {
+    for i in 0..records.len() {
         let x = records[i] as usize;
         if x < least {
             return false;
         }
         least = x + 1;
-        i += 1;
     }
     true
 }
@@ -75,10 +71,8 @@ fn joined_records(
 {
     let row = rowpairs::record_row(anchors);
     let mut records: [bool; book::MAX_RECORDS] = [false; book::MAX_RECORDS];
-    let mut x = 0;
-    while x < n {
+    for x in 0..n {
         records[x] = rowpairs::joins_some(cells, masks, n, x, &row);
-        x += 1;
     }
     records
 }
@@ -135,15 +129,13 @@ fn fallen(
 {
     let mut words: [u32; book::MAX_RECORDS] = [0; book::MAX_RECORDS];
     let mut count = 0;
-    let mut x = 0;
-    while x < n {
+    for x in 0..n {
         let had = before[x];
         let has = after[x];
         if loses(had, has, x == core) {
             words[count] = x as u32;
             count += 1;
         }
-        x += 1;
     }
     FallenList { words, count }
 }

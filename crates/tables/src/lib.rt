@@ -256,10 +256,8 @@ fn built(
         top: 0,
         used: 0,
     };
-    let mut i = 0;
-    while i < numbers.len() {
+    for i in 0..numbers.len() {
         s = step(follow, pred, enter, s, numbers[i]);
-        i += 1;
     }
     if against {
         return inverted(follow, pred, enter, s);

@@ -32,10 +32,8 @@ fn print_step(stdout: Stdout, word: u32) -> io::Result<()> {
 fn print_steps(stdout: Stdout, list: &[u32], count: usize) -> io::Result<()>
     requires { count ≤ length list.now }
 {
-    let mut i = 0;
-    while i < count {
+    for i in 0..count {
         print_step(stdout, list[i])?;
-        i += 1;
     }
     Ok(())
 }

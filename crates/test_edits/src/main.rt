@@ -326,11 +326,9 @@ fn toggled(r: Register, times: u16) -> Tally {
         register: r,
         accepted: 0,
     };
-    let mut k = 0;
-    while k < times {
+    for k in 0..times {
         let s = t.register;
         t = tallied(toggle(s, k), t.accepted);
-        k += 1;
     }
     t
 }
@@ -340,11 +338,9 @@ fn undone(r: Register, times: u16) -> Tally {
         register: r,
         accepted: 0,
     };
-    let mut k = 0;
-    while k < times {
+    for k in 0..times {
         let s = t.register;
         t = tallied(s.undo(), t.accepted);
-        k += 1;
     }
     t
 }
@@ -354,11 +350,9 @@ fn filled(r: Register, times: u16) -> Tally {
         register: r,
         accepted: 0,
     };
-    let mut k = 0;
-    while k < times {
+    for k in 0..times {
         let s = t.register;
         t = tallied(s.add(k / 4, 0, k % 4), t.accepted);
-        k += 1;
     }
     t
 }

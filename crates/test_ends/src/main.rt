@@ -16,11 +16,9 @@ fn print_number(stdout: Stdout, x: u64) -> io::Result<()> {
 
 // The whole list as it was lent, so that words past the ends are seen too.
 fn print_list(stdout: Stdout, list: &[u32]) -> io::Result<()> {
-    let mut i = 0;
-    while i < list.len() {
+    for i in 0..list.len() {
         print(stdout, b" ")?;
         print_number(stdout, list[i] as u64)?;
-        i += 1;
     }
     print(stdout, b"\n")
 }

@@ -12,11 +12,9 @@ use std::io::Stdout;
 fn write_numbers(stdout: Stdout, code: &[u64], n: usize) -> io::Result<()>
     requires { n ≤ length code.now }
 {
-    let mut i = 0;
-    while i < n {
+    for i in 0..n {
         stdout.write_all(b" ")?;
         stdout.print(code[i])?;
-        i += 1;
     }
     Ok(())
 }

@@ -175,10 +175,8 @@ fn mark(used: &mut [u64], n: usize)
     requires { (n ≤ max_records) × (length used.old ≡ 16) }
     ensures { bit_at used.old ≡ none → bit_at used.new ≡ below n }
 {
-    let mut i = 0;
-    while i < n {
+    for i in 0..n {
         bits::set_bit(used, i);
-        i += 1;
     }
 }
 

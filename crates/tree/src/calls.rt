@@ -25,8 +25,7 @@ const PAIR_UNIT: u32 = book::MAX_RECORDS as u32;
 fn pairs_below(pairs: &[u32], n: usize) -> bool
     ensures { (result ≡ true → PairsBelow n pairs.now) × (PairsBelow n pairs.now → result ≡ true) }
 {
-    let mut i = 0;
-    while i < pairs.len() {
+    for i in 0..pairs.len() {
         let p = pairs[i];
         if n <= (p / PAIR_UNIT) as usize {
             return false;
@@ -34,7 +33,6 @@ fn pairs_below(pairs: &[u32], n: usize) -> bool
         if n <= (p % PAIR_UNIT) as usize {
             return false;
         }
-        i += 1;
     }
     true
 }

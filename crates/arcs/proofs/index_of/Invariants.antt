@@ -1,5 +1,5 @@
 -- The index is that of the first j arcs (`Indexed`). The measure is what is left of the arcs.
-use Rattle.std.proofs.Common.{List, ℕ, ◌≡◌, ◌-◌, ◌≤◌, length}
+use Rattle.std.proofs.Common.{List, ℕ, ◌≡◌, ◌≤◌, length}
 use Rattle.arcs.specs.Index.{key_at, Indexed}
 use Rattle.arcs.proofs.index_of.Given as goal
 
@@ -11,6 +11,3 @@ pub record Loop (arcs : List ℕ) (key : ℕ) (index₀ index : List ℕ) (j : �
 
 abbrev pub invariant-loop-j : goal.invariant-loop-j
 invariant-loop-j l = Loop l.arcs l.key l.fn.index l.index l.j
-
-abbrev pub decreases-loop-j : goal.decreases-loop-j
-decreases-loop-j l = length l.arcs - l.j

@@ -1,5 +1,5 @@
 -- The list shows the places below y at which a state was seen, and t is how many they are. The measure is what is left of the records.
-use Rattle.std.proofs.Common.{List, ℕ, ◌≡◌, ◌-◌, ◌≤◌, length}
+use Rattle.std.proofs.Common.{List, ℕ, ◌≡◌, ◌≤◌, length}
 use Rattle.rows.specs.Rows.{places}
 use Rattle.answers.specs.Listing.{Shown}
 use Rattle.ends.specs.Listing.{meets}
@@ -14,6 +14,3 @@ pub record Loop (seen : List ℕ) (states n : ℕ) (out₀ out : List ℕ) (t y 
 
 abbrev pub invariant-loop-y : goal.invariant-loop-y
 invariant-loop-y l = Loop l.seen l.states l.n l.fn.out l.out l.t l.y
-
-abbrev pub decreases-loop-y : goal.decreases-loop-y
-decreases-loop-y l = l.n - l.y

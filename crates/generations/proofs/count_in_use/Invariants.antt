@@ -2,7 +2,7 @@
 -- It rests on `count_used` and `count_out`. Assumes nothing.
 use mathlib.Core.Path.{◌≡◌}
 use mathlib.Core.List.{List}
-use Prim.Native.Nat.{ℕ, ◌≤◌, ◌-◌}
+use Prim.Native.Nat.{ℕ, ◌≤◌}
 use lib.ListN.{length}
 use Rattle.generations.specs.Inner.{chosen}
 use Rattle.generations.proofs.count_in_use.Given as goal
@@ -15,6 +15,3 @@ pub record Loop (marks : List ℕ) (n count y : ℕ) : Type 0 where
 
 abbrev pub invariant-loop-y : goal.invariant-loop-y
 invariant-loop-y l = Loop l.marks l.n l.count l.y
-
-abbrev pub decreases-loop-y : goal.decreases-loop-y
-decreases-loop-y l = l.n - l.y

@@ -2,7 +2,7 @@
 -- many are left. It rests on `wrote_used` and `wrote_out`. Assumes nothing.
 use mathlib.Core.List.{List}
 use mathlib.Core.Path.{◌≡◌}
-use Prim.Native.Nat.{ℕ, ◌≤◌, ◌-◌}
+use Prim.Native.Nat.{ℕ, ◌≤◌}
 use lib.ListN.{length}
 use Rattle.answers.specs.Written.{Wrote}
 use Rattle.generations.specs.Inner.{chosen}
@@ -17,6 +17,3 @@ pub record Loop (marks depths : List ℕ) (n : ℕ) (list₀ list : List ℕ) (c
 
 abbrev pub invariant-loop-y : goal.invariant-loop-y
 invariant-loop-y l = Loop l.marks l.depths l.n l.initial.list l.list l.count l.y
-
-abbrev pub decreases-loop-y : goal.decreases-loop-y
-decreases-loop-y l = l.n - l.y

@@ -2,7 +2,7 @@
 -- record's are as they were. The measure is what is left. Assumes nothing.
 use mathlib.Core.Path.{◌≡◌}
 use mathlib.Core.List.{List}
-use Prim.Native.Nat.{ℕ, ◌≤◌, ◌-◌, ◌*◌}
+use Prim.Native.Nat.{ℕ, ◌≤◌, ◌*◌}
 use lib.IntN.{ℤ}
 use lib.ListN.{length, drop}
 use Rattle.offsets.specs.Finds.{Told, Fits}
@@ -16,6 +16,3 @@ pub record Telling (n : ℕ) (d list₀ list : List ℤ) (x : ℕ) : Type 0 wher
 
 abbrev pub invariant-loop-x : goal.invariant-loop-x
 invariant-loop-x l = Telling l.n l.d l.initial.list l.list l.x
-
-abbrev pub decreases-loop-x : goal.decreases-loop-x
-decreases-loop-x l = l.n - l.x

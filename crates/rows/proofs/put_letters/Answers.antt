@@ -1,7 +1,7 @@
 -- `put_letters` sets a bit for each word whose label is in one set, and one for each whose label is in the other. The loop's invariant: the pairs
--- of the first i words are put in. The measure is the words left. It rests on `crossed_forward`, `crossed_against` and `letters_out`.
+-- of the first i words are put in. It rests on `crossed_forward`, `crossed_against` and `letters_out`.
 -- Assumes nothing.
-use mathlib.Core.Path.{◌≡◌, refl, sym, ap, ◌∙◌}
+use mathlib.Core.Path.{◌≡◌, sym, ap, ◌∙◌}
 use mathlib.Core.List.{List}
 use Prim.Native.Nat.{ℕ, ◌+◌, ◌*◌, ◌/◌, ◌%◌, ◌<◌}
 use native.Mathlib.Omega.{arith}
@@ -17,9 +17,9 @@ use Rattle.rows.proofs.PutLaws.{letters_of, crossing, letters_out, crossed_forwa
 use Rattle.rows.proofs.put_letters.Goals as goal
 use Rattle.rows.proofs.put_letters.Goals.{then-has_label, else-has_label, then-has_label-2, else-has_label-2}
 
-pub loop-i-init : goal.loop-i-init
-loop-i-init c =
-    record { inside = omega arith; as_long = refl; put = λ x e. e ∙ ap flat (sym (crossed_start x _ _)) }
+pub loop-word-init : goal.loop-word-init
+loop-word-init c =
+    λ x e. e ∙ ap flat (sym (crossed_start x _ _))
 
 pub set_bit-requires : goal.set_bit-requires
 unfolding link_pair
@@ -34,42 +34,39 @@ pub set_bit-requires-then-has_label-2 : goal.set_bit-requires-then-has_label-2
 unfolding link_pair
 set_bit-requires-then-has_label-2 c = omega arith
 
-pub loop-i-preserved : goal.loop-i-preserved
+pub loop-word-preserved : goal.loop-word-preserved
 unfolding link_pair
-loop-i-preserved c =
-    let l = c.loop-i in
+loop-word-preserved c =
+    let l = c.loop-word in
     let a = c.args in
+    let i = l.word-index in
     let ws = a.words.now in
-    let ps = letters_of a.forward (take (l.i + 1) ws) in
-    let qs = letters_of a.against (take l.i ws) in
+    let ps = letters_of a.forward (take (i + 1) ws) in
+    let qs = letters_of a.against (take i ws) in
     let p = c.pair_of-p in
-    let h : l.i < length ws = omega arith in
+    let h : i < length ws = omega arith in
     let r₁ = c.has_label.ensures ∙ ap (λ (k : ℕ). eqb (digit a.forward k) 1) c.label_of-label.ensures in
-    let before : Held ws a.forward a.against a.rows.now l.rows l.i l.i
-    = λ x e. l.invariant.put x e ∙ ap (λ (t : Cells). flat (union x t)) (crossed_is (take l.i ws) a.forward a.against) in
+    let before : Held ws a.forward a.against a.rows.now l.rows i i
+    = λ x e. l.invariant x e ∙ ap (λ (t : Cells). flat (union x t)) (crossed_is (take i ws) a.forward a.against) in
     -- the word's pair is put in forward
-    let old : Held ws a.forward a.against a.rows.now c.if-has_label.rows (l.i + 1) l.i
+    let old : Held ws a.forward a.against a.rows.now c.if-has_label.rows (i + 1) i
     = elim c.if-has_label.branch [
       | then-has_label w ↦ λ x e.
           let b : Bits (flat x) = λ k. rw (← e) (bit_lt a.rows.now k) in
           rw w.rows-is (w.set_bit.ensures ∙ ap (λ (k : ℕ). put k 1 (bit_at l.rows)) p.ensures
-          ∙ rw (before x e) (crossed_forward x ws l.i a.forward a.against h b qs (sym r₁ ∙ w.if-has_label.true)))
+          ∙ rw (before x e) (crossed_forward x ws i a.forward a.against h b qs (sym r₁ ∙ w.if-has_label.true)))
       | else-has_label w ↦ λ x e.
-          rw w.rows-is (before x e ∙ ap (λ (ps : List ℕ). flat (union x (crossing ps qs))) (letters_out a.forward ws l.i h (sym r₁ ∙ w.if-has_label.false)))
+          rw w.rows-is (before x e ∙ ap (λ (ps : List ℕ). flat (union x (crossing ps qs))) (letters_out a.forward ws i h (sym r₁ ∙ w.if-has_label.false)))
     ] in
-    let r = c.has_label-in-loop-i.ensures ∙ ap (λ (k : ℕ). eqb (digit a.against k) 1) c.label_of-label.ensures in
-    let new = sym (crossed_is (take (l.i + 1) ws) a.forward a.against) in
-    record {
-      inside = omega arith;
-      as_long = omega arith;
-      put = elim c.if-has_label-2.branch [
-        | then-has_label-2 w ↦ λ x e.
-            let b : Bits (flat x) = λ k. rw (← e) (bit_lt a.rows.now k) in
-            rw w.rows-is (w.set_bit-then-has_label-2.ensures ∙ ap (λ (k : ℕ). put (k % 1024 * 1024 + k / 1024) 1 (bit_at c.if-has_label.rows)) p.ensures
-            ∙ rw (old x e) (crossed_against x ws l.i a.forward a.against h b ps (sym r ∙ w.if-has_label-2.true)
-            ∙ ap (λ (t : Cells). flat (union x t)) new))
-        | else-has_label-2 w ↦ λ x e.
-            rw w.rows-is (old x e ∙ ap (λ (qs : List ℕ). flat (union x (crossing ps qs))) (letters_out a.against ws l.i h (sym r ∙ w.if-has_label-2.false))
-            ∙ ap (λ (t : Cells). flat (union x t)) new)
-      ];
-    }
+    let r = c.has_label-in-loop-word.ensures ∙ ap (λ (k : ℕ). eqb (digit a.against k) 1) c.label_of-label.ensures in
+    let new = sym (crossed_is (take (i + 1) ws) a.forward a.against) in
+    elim c.if-has_label-2.branch [
+      | then-has_label-2 w ↦ λ x e.
+          let b : Bits (flat x) = λ k. rw (← e) (bit_lt a.rows.now k) in
+          rw w.rows-is (w.set_bit-then-has_label-2.ensures ∙ ap (λ (k : ℕ). put (k % 1024 * 1024 + k / 1024) 1 (bit_at c.if-has_label.rows)) p.ensures
+          ∙ rw (old x e) (crossed_against x ws i a.forward a.against h b ps (sym r ∙ w.if-has_label-2.true)
+          ∙ ap (λ (t : Cells). flat (union x t)) new))
+      | else-has_label-2 w ↦ λ x e.
+          rw w.rows-is (old x e ∙ ap (λ (qs : List ℕ). flat (union x (crossing ps qs))) (letters_out a.against ws i h (sym r ∙ w.if-has_label-2.false))
+          ∙ ap (λ (t : Cells). flat (union x t)) new)
+    ]

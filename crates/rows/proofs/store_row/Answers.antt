@@ -1,13 +1,13 @@
--- `store_row` copies the words. The loop's invariant: the first s words are stored, the others as at the start. The measure is the words
--- left. It rests on `stored_more` and `stored_all`. Assumes nothing.
+-- The row's words stand in the place of those of row i (`row_stored`). Assumes nothing.
 use mathlib.Core.Path.{◌≡◌}
+use Prim.Native.Nat.{◌+◌, ◌-◌, ◌*◌}
 use native.Mathlib.Omega.{arith}
-use Rattle.rows.proofs.WordwiseLaws.{stored_all}
+use lib.ListN.{length}
+use Rattle.rows.proofs.WordwiseLaws.{row_stored}
 use Rattle.rows.proofs.store_row.Goals as goal
 
 pub returns : goal.returns
 returns c =
-    let l = c.loop-s in
     let a = c.args in
-    let e : l.s ≡ 16 = omega arith in
-    stored_all a.row.now a.rows.now a.i l.rows (rw e at l.invariant.stored)
+    let n : a.i * 16 + 16 - a.i * 16 ≡ length a.row.now = omega arith in
+    rw (c.copy_from_slice.ensures.after, n) (row_stored a.row.now a.rows.now a.i (omega arith) (omega arith))

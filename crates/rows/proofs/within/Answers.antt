@@ -32,11 +32,9 @@ pub loop-i-preserved : goal.loop-i-preserved
 loop-i-preserved c =
     let l = c.loop-i in
     let a = c.args in
-    let x = c.next.ensures in (
-      omega arith,
-      below_more (λ (j : ℕ). Gap (bit_at a.rows.now) (j * 1024 + a.n) (j * 1024 + 1024))
-          l.i l.invariant.1 (λ k p q. x.gap k p (omega (arith, c.if-next-end.false))),
-    )
+    let x = c.next.ensures in
+    below_more (λ (j : ℕ). Gap (bit_at a.rows.now) (j * 1024 + a.n) (j * 1024 + 1024))
+    l.i l.invariant (λ k p q. x.gap k p (omega (arith, c.if-next-end.false)))
 
 -- no bit is found exactly if there is none
 last : (n r : ℕ) (ws : List ℕ) → n ≤ 1024 → length ws ≡ 16384 → Next (bit_at ws) (n * 1024) 1048576 r → RowsOf n ws → r ≡ 1048576
@@ -55,6 +53,6 @@ returns c =
     let long : length a.rows.now ≡ 16384 = omega arith in (
       λ e.
           let r : c.next-2.result ≡ 1048576 = eqb-true _ _ e in
-          rows_of a.n a.rows.now nl long (λ i h. l.invariant.1 i (omega arith)) (λ k p q. x.gap k p (omega arith)),
+          rows_of a.n a.rows.now nl long (λ i h. l.invariant i (omega arith)) (λ k p q. x.gap k p (omega arith)),
       λ o. eq-eqb _ _ (last a.n c.next-2.result a.rows.now nl long x o),
     )

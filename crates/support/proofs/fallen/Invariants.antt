@@ -3,7 +3,7 @@
 use mathlib.Core.Bool.{Bool}
 use mathlib.Core.List.{List}
 use mathlib.Core.Path.{◌≡◌}
-use Prim.Native.Nat.{ℕ, ◌-◌, ◌≤◌}
+use Prim.Native.Nat.{ℕ, ◌≤◌}
 use lib.ListN.{length, take}
 use Rattle.book.specs.Causes.{max_records}
 use Rattle.support.specs.Support.{chosen}
@@ -20,6 +20,3 @@ pub record Loop (core n : ℕ) (before after : List Bool) (words : List ℕ) (co
 
 abbrev pub invariant-loop-x : goal.invariant-loop-x
 invariant-loop-x l = Loop l.core l.n l.before l.after l.words l.count l.x
-
-abbrev pub decreases-loop-x : goal.decreases-loop-x
-decreases-loop-x l = l.n - l.x

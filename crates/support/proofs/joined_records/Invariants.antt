@@ -3,7 +3,7 @@
 use mathlib.Core.List.{List}
 use mathlib.Core.Bool.{Bool, false}
 use mathlib.Core.Path.{◌≡◌}
-use Prim.Native.Nat.{ℕ, ◌-◌, ◌≤◌, ◌<◌}
+use Prim.Native.Nat.{ℕ, ◌≤◌, ◌<◌}
 use lib.ListN.{length, get_or}
 use Rattle.book.specs.Causes.{max_records}
 use Rattle.support.specs.Support.{reaches}
@@ -19,6 +19,3 @@ pub record Loop (cells masks : List ℕ) (n : ℕ) (anchors : List ℕ) (records
 
 abbrev pub invariant-loop-x : goal.invariant-loop-x
 invariant-loop-x l = Loop l.cells l.masks l.n l.anchors l.records l.x
-
-abbrev pub decreases-loop-x : goal.decreases-loop-x
-decreases-loop-x l = l.n - l.x

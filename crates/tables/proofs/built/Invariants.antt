@@ -1,5 +1,5 @@
 -- The tables keep their lengths, and what is still to be run leaves the expression's part alone. The measure is what is left of the code.
-use Rattle.std.proofs.Common.{◌≡◌, List, ℕ, ◌-◌, ◌≤◌, length, drop}
+use Rattle.std.proofs.Common.{◌≡◌, List, ℕ, ◌≤◌, length, drop}
 use Rattle.paths.specs.Expressions.{Expr}
 use Rattle.paths.specs.Verdicts.{InLimits}
 use Rattle.reader.specs.Code.{code, value}
@@ -16,6 +16,3 @@ invariant-loop-i l =
       next_of : (text : List ℕ) (e : Expr) → InLimits text e → l.numbers ≡ code e
           → Next (build l.follow l.pred l.enter l.s) (drop l.i l.numbers) (value parts e);
     }
-
-abbrev pub decreases-loop-i : goal.decreases-loop-i
-decreases-loop-i l = length l.numbers - l.i

@@ -2,7 +2,7 @@
 -- nothing.
 use mathlib.Core.List.{List}
 use mathlib.Core.Path.{◌≡◌}
-use Prim.Native.Nat.{ℕ, ◌≤◌, ◌-◌}
+use Prim.Native.Nat.{ℕ, ◌≤◌}
 use lib.ListN.{length}
 use Rattle.k2.specs.Bits.{bit_at}
 use Rattle.bits.specs.BitSets.{none}
@@ -17,6 +17,3 @@ pub record Loop (used₀ : List ℕ) (n : ℕ) (used : List ℕ) (i : ℕ) : Typ
 
 abbrev pub invariant-loop-i : goal.invariant-loop-i
 invariant-loop-i l = Loop l.initial.used l.n l.used l.i
-
-abbrev pub decreases-loop-i : goal.decreases-loop-i
-decreases-loop-i l = l.n - l.i

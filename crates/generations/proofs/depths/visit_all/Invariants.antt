@@ -2,7 +2,7 @@
 -- left. It rests on `settled_more` and `settled_loop`. Assumes nothing.
 use mathlib.Core.List.{List}
 use mathlib.Core.Path.{◌≡◌}
-use Prim.Native.Nat.{ℕ, ◌≤◌, ◌-◌}
+use Prim.Native.Nat.{ℕ, ◌≤◌}
 use lib.ListN.{length}
 use Rattle.generations.proofs.DepthLaws.{Settled}
 use Rattle.generations.proofs.depths.visit_all.Given as goal
@@ -15,6 +15,3 @@ pub record Loop (links : List ℕ) (n : ℕ) (depths : List ℕ) (y : ℕ) : Typ
 
 abbrev pub invariant-loop-y : goal.invariant-loop-y
 invariant-loop-y l = Loop l.links l.n l.depths l.y
-
-abbrev pub decreases-loop-y : goal.decreases-loop-y
-decreases-loop-y l = l.n - l.y

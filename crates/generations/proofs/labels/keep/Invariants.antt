@@ -2,7 +2,7 @@
 -- left. It rests on `keep_yes` and `keep_no`. Assumes nothing.
 use mathlib.Core.List.{List}
 use mathlib.Core.Path.{◌≡◌}
-use Prim.Native.Nat.{ℕ, ◌≤◌, ◌-◌}
+use Prim.Native.Nat.{ℕ, ◌≤◌}
 use lib.ListN.{length, take}
 use Rattle.rows.specs.RowSets.{labelled}
 use Rattle.generations.proofs.labels.keep.Given as goal
@@ -16,6 +16,3 @@ pub record Loop (words : List ℕ) (set : ℕ) (kept₀ kept : List ℕ) (count 
 
 abbrev pub invariant-loop-i : goal.invariant-loop-i
 invariant-loop-i l = Loop l.words l.set l.initial.kept l.kept l.count l.i
-
-abbrev pub decreases-loop-i : goal.decreases-loop-i
-decreases-loop-i l = length l.words - l.i

@@ -2,7 +2,7 @@
 -- labels are left. It rests on `laid_yes` and `laid_no`. Assumes nothing.
 use mathlib.Core.List.{List}
 use mathlib.Core.Path.{◌≡◌}
-use Prim.Native.Nat.{ℕ, ◌≤◌, ◌-◌}
+use Prim.Native.Nat.{ℕ, ◌≤◌}
 use lib.ListN.{length}
 use Rattle.generations.proofs.LabelLaws.{Laid}
 use Rattle.generations.proofs.labels.spell_labels.Given as goal
@@ -15,6 +15,3 @@ pub record Loop (set : ℕ) (text₀ text : List ℕ) (count label : ℕ) : Type
 
 abbrev pub invariant-loop-label : goal.invariant-loop-label
 invariant-loop-label l = Loop l.set l.initial.text l.text l.count l.label
-
-abbrev pub decreases-loop-label : goal.decreases-loop-label
-decreases-loop-label l = 26 - l.label

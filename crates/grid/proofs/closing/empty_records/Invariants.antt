@@ -2,7 +2,7 @@
 -- `copied_word`. Assumes nothing.
 use mathlib.Core.List.{List}
 use mathlib.Core.Path.{◌≡◌}
-use Prim.Native.Nat.{ℕ, ◌*◌, ◌-◌, ◌≤◌}
+use Prim.Native.Nat.{ℕ, ◌*◌, ◌≤◌}
 use lib.ListN.{length}
 use Rattle.grid.proofs.MarkLaws.{Copied}
 use Rattle.grid.proofs.closing.empty_records.Given as goal
@@ -15,6 +15,3 @@ pub record Loop (marks records : List ℕ) (c : ℕ) : Type 0 where
 
 abbrev pub invariant-loop-c : goal.invariant-loop-c
 invariant-loop-c l = Loop l.marks l.records l.c
-
-abbrev pub decreases-loop-c : goal.decreases-loop-c
-decreases-loop-c l = 16 - l.c

@@ -1,7 +1,7 @@
 -- `mask_rows` has the squares of each row in turn. The loop's invariant: the rows below have their masks. The measure is the rows left. Assumes nothing.
 use mathlib.Core.Path.{◌≡◌}
 use mathlib.Core.List.{List}
-use Prim.Native.Nat.{ℕ, ◌-◌, ◌≤◌, ◌<◌}
+use Prim.Native.Nat.{ℕ, ◌≤◌, ◌<◌}
 use lib.ListN.{length, get_or}
 use Rattle.k2.specs.Bits.{bit_at}
 use Rattle.rows.specs.Steps.{Masked}
@@ -15,6 +15,3 @@ pub record Loop (rows : List ℕ) (n : ℕ) (masks₀ masks : List ℕ) (row : �
 
 abbrev pub invariant-loop-row : goal.invariant-loop-row
 invariant-loop-row l = Loop l.rows l.n l.initial.masks l.masks l.row
-
-abbrev pub decreases-loop-row : goal.decreases-loop-row
-decreases-loop-row l = l.n - l.row

@@ -2,7 +2,7 @@
 -- the records left. It rests on `filled_more` and `filled_same`. Assumes nothing.
 use mathlib.Core.List.{List}
 use mathlib.Core.Path.{◌≡◌}
-use Prim.Native.Nat.{ℕ, ◌-◌, ◌≤◌}
+use Prim.Native.Nat.{ℕ, ◌≤◌}
 use lib.ListN.{length}
 use Rattle.k2.specs.Bits.{bit_at}
 use Rattle.grid.specs.Steps.{Filled}
@@ -16,6 +16,3 @@ pub record Loop (masks : List ℕ) (n : ℕ) (records : List ℕ) (x : ℕ) : Ty
 
 abbrev pub invariant-loop-x : goal.invariant-loop-x
 invariant-loop-x l = Loop l.masks l.n l.records l.x
-
-abbrev pub decreases-loop-x : goal.decreases-loop-x
-decreases-loop-x l = l.n - l.x

@@ -2,7 +2,7 @@
 -- words left. It rests on `started_word`. Assumes nothing.
 use mathlib.Core.List.{List}
 use mathlib.Core.Path.{◌≡◌}
-use Prim.Native.Nat.{ℕ, ◌*◌, ◌-◌, ◌≤◌}
+use Prim.Native.Nat.{ℕ, ◌*◌, ◌≤◌}
 use lib.ListN.{length}
 use Rattle.k2.specs.Bits.{bit_at}
 use Rattle.grid.specs.Steps.{Started}
@@ -16,6 +16,3 @@ pub record Loop (filled marks : List ℕ) (c : ℕ) : Type 0 where
 
 abbrev pub invariant-loop-c : goal.invariant-loop-c
 invariant-loop-c l = Loop l.filled l.marks l.c
-
-abbrev pub decreases-loop-c : goal.decreases-loop-c
-decreases-loop-c l = 16 - l.c

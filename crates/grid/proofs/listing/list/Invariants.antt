@@ -2,7 +2,7 @@
 -- rests on `rows_next`. Assumes nothing.
 use mathlib.Core.List.{List}
 use mathlib.Core.Path.{◌≡◌}
-use Prim.Native.Nat.{ℕ, ◌*◌, ◌-◌, ◌≤◌}
+use Prim.Native.Nat.{ℕ, ◌*◌, ◌≤◌}
 use lib.ListN.{length}
 use Rattle.k2.specs.PairSets.{rows_pairs}
 use Rattle.grid.specs.Grid.{first}
@@ -18,6 +18,3 @@ pub record Loop (cells masks : List ℕ) (n w : ℕ) (out₀ out : List ℕ) (t 
 
 abbrev pub invariant-loop-x : goal.invariant-loop-x
 invariant-loop-x l = Loop l.cells l.masks l.n l.w l.initial.out l.out l.t l.x
-
-abbrev pub decreases-loop-x : goal.decreases-loop-x
-decreases-loop-x l = l.n - l.x

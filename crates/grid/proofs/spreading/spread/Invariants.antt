@@ -2,7 +2,7 @@
 -- rests on `laid_more`. Assumes nothing.
 use mathlib.Core.List.{List}
 use mathlib.Core.Path.{◌≡◌}
-use Prim.Native.Nat.{ℕ, ◌-◌, ◌≤◌}
+use Prim.Native.Nat.{ℕ, ◌≤◌}
 use lib.ListN.{length}
 use Rattle.grid.specs.Grid.{first}
 use Rattle.grid.proofs.SpreadLaws.{Laid}
@@ -16,6 +16,3 @@ pub record Loop (cells masks : List ℕ) (n w : ℕ) (rows : List ℕ) (x : ℕ)
 
 abbrev pub invariant-loop-x : goal.invariant-loop-x
 invariant-loop-x l = Loop l.cells l.masks l.n l.w l.rows l.x
-
-abbrev pub decreases-loop-x : goal.decreases-loop-x
-decreases-loop-x l = l.n - l.x

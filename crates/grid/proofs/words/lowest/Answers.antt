@@ -1,7 +1,11 @@
--- `lowest` is the trailing zeros. Assumes nothing.
-use native.Mathlib.Omega.{arith}
-use Rattle.grid.proofs.ScanLaws.{lowest_is}
+-- `lowest` is the trailing zeros, and a word that is not 0 has a one. Assumes nothing.
+use Rattle.std.proofs.Common.{refl, arith}
+use Rattle.grid.specs.Steps.{low}
+use Rattle.grid.proofs.ScanLaws.{low_is, low_some}
 use Rattle.grid.proofs.words.lowest.Goals as goal
 
 pub returns : goal.returns
-returns c = lowest_is c.args.word (omega arith)
+unfolding low
+returns c =
+    let v = c.args.word in
+    record { place = refl; first = low_is v; some = low_some v (omega arith) }

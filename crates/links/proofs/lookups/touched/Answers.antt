@@ -1,15 +1,23 @@
--- `links::lookups::touched` meets its contract: the record is looked for at one side, then at the other. Assumes nothing.
-use Rattle.std.proofs.Common.{sym, take}
-use Rattle.links.proofs.LookupLaws.{touched_from, touched_second}
+-- A record is touched exactly if some word's link has it as an end. Assumes nothing.
+use Rattle.std.proofs.Common.{◌≡◌, refl, List, [], ◌∷◌, ◌||◌, map, ℕ, take, rules, ap}
+use Rattle.std.specs.Prelude.{eqb}
+use Rattle.std.specs.List.{list_any}
+use Rattle.std.proofs.lemmas.Iterator.{YieldsList-from_slice}
+use Rattle.std.proofs.lemmas.Iterator.Search.{any_from_yields_List}
+use borrow.Author.Tests.{tests}
+use Rattle.book.specs.Book.{touched}
+use Rattle.links.specs.Parts.{link_of}
 use Rattle.links.proofs.lookups.touched.Goals as goal
 
-pub returns-then-next_side-part : goal.returns-then-next_side-part
-returns-then-next_side-part c =
-    let s = c.args in
-    sym (touched_from (take s.count s.words.now) s.«record» (rw c.next_side.ensures at c.if-next_side-part.true))
+touched_any : (r : ℕ) (ws : List ℕ) → touched r (map link_of ws) ≡ list_any (λ w. eqb (link_of w).from r || eqb (link_of w).to r) ws
+unfolding touched
+touched_any r [] = refl
+touched_any r (w ∷ ws) = ap (λ b. (eqb (link_of w).from r || eqb (link_of w).to r) || b) (touched_any r ws)
 
 pub returns : goal.returns
 returns c =
-    let s = c.args in
-    touched_second (take s.count s.words.now) s.«record»
-    (rw c.next_side.ensures at c.if-next_side-part.false) c.next_side-2.result c.next_side-2.ensures
+    let r = c.args.«record» in
+    let part : List ℕ = take c.args.count c.args.words.now in
+    rw (touched_any r part)
+    (any_from_yields_List (λ w. eqb (link_of w).from r || eqb (link_of w).to r) _ _ _ c.any.ensures.ran
+    (YieldsList-from_slice part cc) (λ x b q k. search (rules, tests)))

@@ -1,4 +1,4 @@
--- `links::sorted::place` meets its contract. The loop's invariant: the word before low is below x, and the word at high, if high is below count, is not.
+-- The loop's invariant: the word before low is below x, and the word at high, if high is below count, is not.
 -- The measure is the distance from low to high. Assumes nothing.
 use Rattle.std.proofs.Common.{◌≡◌, ℕ, suc, ◌-◌, ◌<◌, ◌≤◌, get_or}
 use Rattle.links.proofs.sorted.lower_bound.Given as goal

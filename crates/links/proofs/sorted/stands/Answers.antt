@@ -1,12 +1,12 @@
--- `links::sorted::stands` meets its contract, by its test. Assumes nothing.
+-- `stands` is its test. Assumes nothing.
 use borrow.Author.Tests.{le-ltb, lt-ltb}
 use Rattle.links.specs.Ascending.{stands_at}
 use Rattle.links.proofs.sorted.stands.Goals as goal
 
-pub returns-then-count-at : goal.returns-then-count-at
+pub returns-then-at-count : goal.returns-then-at-count
 unfolding stands_at
-returns-then-count-at c = rw (le-ltb _ _ c.if-count-at.true)
+returns-then-at-count c = rw (lt-ltb _ _ c.if-at-count.true)
 
-pub returns : goal.returns
+pub returns-else-at-count : goal.returns-else-at-count
 unfolding stands_at
-returns c = rw (lt-ltb _ _ c.if-count-at.false)
+returns-else-at-count c = rw (le-ltb _ _ c.if-at-count.false)

@@ -35,6 +35,3 @@ pub record Loop (rows : List ℕ) (g base : ℕ) (heap₀ : List ℕ) (side : �
 
 abbrev pub invariant-loop-r : goal.invariant-loop-r
 invariant-loop-r l = Loop l.rows l.g l.base l.initial.heap l.side l.heap l.r
-
-abbrev pub decreases-loop-r : goal.decreases-loop-r
-decreases-loop-r l = l.side - l.r

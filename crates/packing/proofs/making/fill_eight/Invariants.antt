@@ -2,7 +2,7 @@
 -- left. If the words of all eight are 0, they add nothing (`eight_none`). Assumes nothing.
 use mathlib.Core.List.{List}
 use mathlib.Core.Path.{◌≡◌}
-use Prim.Native.Nat.{ℕ, ◌+◌, ◌-◌, ◌*◌, ◌^◌, ◌≤◌}
+use Prim.Native.Nat.{ℕ, ◌+◌, ◌*◌, ◌^◌, ◌≤◌}
 use lib.ListN.{length}
 use Rattle.k2.specs.Bits.{bit_at}
 use Rattle.k2.specs.PairSets.{Cells, IsSet}
@@ -20,6 +20,3 @@ pub record Loop (rows : List ℕ) (r c g base : ℕ) (heap₀ heap : List ℕ) (
 
 abbrev pub invariant-loop-k : goal.invariant-loop-k
 invariant-loop-k l = Loop l.rows l.r l.c l.g l.base l.initial.heap l.heap l.k
-
-abbrev pub decreases-loop-k : goal.decreases-loop-k
-decreases-loop-k l = 8 - l.k

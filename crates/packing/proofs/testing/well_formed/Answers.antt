@@ -2,6 +2,9 @@
 use mathlib.Core.Path.{◌≡◌, refl, sym, ap, subst, ◌∙◌}
 use native.Mathlib.Omega.{arith}
 use lib.ListN.{length}
+use Rattle.std.proofs.Common.{rules, tests}
+use Rattle.std.proofs.lemmas.Bool.Decides.{Decides-eqb}
+use Rattle.std.proofs.lemmas.Slice.Eq.{slice_eq-Decides}
 use Rattle.k2.specs.Bits.{bit_at}
 use Rattle.k2.specs.Trees.{WellFormed}
 use Rattle.k2.specs.TreeLaws.{tree_none}
@@ -13,10 +16,11 @@ use Rattle.rows.specs.RowLaws.{flat_none, union_none}
 use Rattle.packing.proofs.StoreLaws.{false_absurd, nil_of}
 use Rattle.packing.proofs.testing.well_formed.Goals as goal
 
-pub returns-then-tree-eq0 : goal.returns-then-tree-eq0
-returns-then-tree-eq0 c =
+pub returns-then-is_empty : goal.returns-then-is_empty
+returns-then-is_empty c =
     let a = c.args in
-    (λ e. subst (WellFormed a.n) (sym (nil_of a.tree.now c.if-tree-eq0.true)) (tree_none a.n), λ w. refl)
+    let z : length a.tree.now ≡ 0 = search (rules, tests) in
+    (λ e. subst (WellFormed a.n) (sym (nil_of a.tree.now z)) (tree_none a.n), λ w. refl)
 
 pub returns-then-tree_unit-tree : goal.returns-then-tree_unit-tree
 returns-then-tree_unit-tree c =
@@ -39,7 +43,8 @@ returns c =
     λ w. c.load.ensures w.set no_pairs w.is_set w.tree (bits_none 16384 ∙ sym flat_none) ∙ ap flat (union_none w.set) in
     let x = c.within in
     let r = x.ensures.0 c.if-not-within.false in
-    let p = c.pack-len.ensures.1 in (
-      λ e. record { set = r.set; is_set = r.is_set; tree = c.same.ensures.0 e ∙ (p r.set r.is_set r.rows).0 },
-      λ w. c.same.ensures.1 (w.tree ∙ sym (p w.set w.is_set (loaded w)).0),
+    let p = c.pack-len.ensures.1 in
+    let same = slice_eq-Decides Decides-eqb _ _ _ c.eq.ensures in (
+      λ e. record { set = r.set; is_set = r.is_set; tree = same.0 e ∙ (p r.set r.is_set r.rows).0 },
+      λ w. same.1 (w.tree ∙ sym (p w.set w.is_set (loaded w)).0),
     )

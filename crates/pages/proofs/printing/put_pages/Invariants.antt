@@ -19,6 +19,3 @@ pub record Loop (text cells masks : List ℕ) (n lines : ℕ) (out₀ out : List
 
 abbrev pub invariant-loop-i : goal.invariant-loop-i
 invariant-loop-i l = Loop l.text l.cells l.masks l.n l.lines l.initial.out l.out l.place l.i
-
-abbrev pub decreases-loop-i : goal.decreases-loop-i
-decreases-loop-i l = l.lines - l.i

@@ -3,7 +3,7 @@
 -- take, are pages (`good_lines`). Assumes nothing.
 use mathlib.Core.List.{List}
 use mathlib.Core.Path.{◌≡◌}
-use Prim.Native.Nat.{ℕ, ◌-◌, ◌*◌, ◌≤◌, ◌<◌}
+use Prim.Native.Nat.{ℕ, ◌*◌, ◌≤◌, ◌<◌}
 use lib.ListN.{length}
 use Rattle.pages.specs.Lines.{pair_words, words_before, after, Stands}
 use Rattle.pages.proofs.reading.judge.Given as goal
@@ -19,6 +19,3 @@ pub record Loop (text pages : List ℕ) (lines count low i : ℕ) : Type 0 where
 
 abbrev pub invariant-loop-i : goal.invariant-loop-i
 invariant-loop-i l = Loop l.text l.pages l.lines l.count l.low l.i
-
-abbrev pub decreases-loop-i : goal.decreases-loop-i
-decreases-loop-i l = l.lines - l.i

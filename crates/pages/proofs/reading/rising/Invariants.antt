@@ -2,7 +2,7 @@
 -- more (`rising-more`); a word that does not ascend is one that no ascending list has (`rising_not`). Assumes nothing.
 use mathlib.Core.List.{List}
 use mathlib.Core.Path.{◌≡◌}
-use Prim.Native.Nat.{ℕ, ◌-◌, ◌≤◌}
+use Prim.Native.Nat.{ℕ, ◌≤◌}
 use lib.ListN.{take}
 use Rattle.k2.specs.PairSetLaws.{Within}
 use Rattle.pages.specs.Lines.{pair_words, after}
@@ -16,6 +16,3 @@ pub record Loop (words : List ℕ) (count low next i : ℕ) : Type 0 where
 
 abbrev pub invariant-loop-i : goal.invariant-loop-i
 invariant-loop-i l = Loop l.words l.count l.low l.next l.i
-
-abbrev pub decreases-loop-i : goal.decreases-loop-i
-decreases-loop-i l = l.count - l.i

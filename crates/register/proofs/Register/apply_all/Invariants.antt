@@ -1,4 +1,4 @@
-use Prim.Native.Nat.{◌-◌, ◌≤◌}
+use Prim.Native.Nat.{◌≤◌}
 use lib.ListN.{length, take}
 use Rattle.register.specs.Inner.{register_of, AsLong, Reached}
 use Rattle.register.proofs.Register.apply_all.Given as goal
@@ -10,6 +10,3 @@ invariant-loop-i l = record {
   long : AsLong l.links l.marks l.ring l.totals;
   reached : Reached l.self (take l.i l.calls) (register_of l.counters l.links l.marks l.ring l.totals);
 }
-
-abbrev pub decreases-loop-i : goal.decreases-loop-i
-decreases-loop-i l = length l.calls - l.i

@@ -1,5 +1,5 @@
 use mathlib.Core.Path.{◌≡◌}
-use Prim.Native.Nat.{◌-◌, ◌≤◌}
+use Prim.Native.Nat.{◌≤◌}
 use lib.ListN.{length}
 use Rattle.register.specs.Closing.{Moved}
 use Rattle.register.proofs.closing.moved.Given as goal
@@ -7,6 +7,3 @@ use Rattle.register.proofs.closing.moved.Given as goal
 -- the locks of the first i records stand at their new numbers
 abbrev pub invariant-loop-i : goal.invariant-loop-i
 invariant-loop-i l = record { inside : l.i ≤ l.n; long : length l.moved ≡ 1024; stand : Moved l.marks l.ranks l.i l.moved }
-
-abbrev pub decreases-loop-i : goal.decreases-loop-i
-decreases-loop-i l = l.n - l.i

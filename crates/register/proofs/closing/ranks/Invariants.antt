@@ -1,5 +1,5 @@
 use mathlib.Core.Path.{◌≡◌}
-use Prim.Native.Nat.{ℕ, ◌-◌, ◌≤◌}
+use Prim.Native.Nat.{ℕ, ◌≤◌}
 use lib.ListN.{length}
 use Rattle.book.specs.Book.{rank}
 use Rattle.register.specs.Closing.{in_use, new_of}
@@ -9,6 +9,3 @@ use Rattle.register.proofs.closing.ranks.Given as goal
 abbrev pub invariant-loop-i : goal.invariant-loop-i
 invariant-loop-i l =
     record { inside : l.i ≤ length l.marks; long : length l.ranks ≡ 1025; stand : (x : ℕ) → x ≤ l.i → new_of l.ranks x ≡ rank (in_use l.marks) x }
-
-abbrev pub decreases-loop-i : goal.decreases-loop-i
-decreases-loop-i l = length l.marks - l.i

@@ -1,6 +1,6 @@
 use mathlib.Core.Path.{◌≡◌}
 use mathlib.Core.List.{map, ◌++◌}
-use Prim.Native.Nat.{◌-◌, ◌≤◌}
+use Prim.Native.Nat.{◌≤◌}
 use lib.ListN.{take, drop}
 use Rattle.register.specs.Closing.{new_of, renamed_word}
 use Rattle.register.proofs.closing.rename.Given as goal
@@ -11,6 +11,3 @@ invariant-loop-i l = record {
   inside : l.i ≤ l.count;
   stand : l.words ≡ map (renamed_word (new_of l.ranks)) (take l.i l.fn.words) ++ drop l.i l.fn.words;
 }
-
-abbrev pub decreases-loop-i : goal.decreases-loop-i
-decreases-loop-i l = l.count - l.i

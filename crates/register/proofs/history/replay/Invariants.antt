@@ -1,4 +1,4 @@
-use Prim.Native.Nat.{◌*◌, ◌-◌, ◌≤◌}
+use Prim.Native.Nat.{◌*◌, ◌≤◌}
 use mathlib.Core.Path.{◌≡◌}
 use mathlib.Core.List.{◌++◌}
 use lib.ListN.{length, take, drop}
@@ -17,6 +17,3 @@ invariant-loop-i l = record {
   said : l.told ≡ word_answers (fresh l.n) (take l.i l.words) ++ drop l.i l.fn.told;
   given : l.numbers ≡ laid (givens (fresh l.n) (calls_of (take l.i l.words))) l.fn.numbers;
 }
-
-abbrev pub decreases-loop-i : goal.decreases-loop-i
-decreases-loop-i l = length l.words - l.i

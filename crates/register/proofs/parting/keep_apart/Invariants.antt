@@ -1,4 +1,4 @@
-use Prim.Native.Nat.{◌-◌, ◌≤◌}
+use Prim.Native.Nat.{◌≤◌}
 use lib.ListN.{take}
 use Rattle.register.proofs.WithoutLaws.{Keeping}
 use Rattle.register.proofs.parting.keep_apart.Given as goal
@@ -10,6 +10,3 @@ invariant-loop-i l = record {
   few : l.kept ≤ l.i;
   stand : Keeping l.«record» (take l.count l.fn.words) l.fn.totals l.left l.words l.kept l.i;
 }
-
-abbrev pub decreases-loop-i : goal.decreases-loop-i
-decreases-loop-i l = l.count - l.i

@@ -1,5 +1,5 @@
 use mathlib.Core.Path.{◌≡◌}
-use Prim.Native.Nat.{◌-◌, ◌≤◌}
+use Prim.Native.Nat.{◌≤◌}
 use lib.ListN.{length, take}
 use Rattle.register.specs.Parting.{filter}
 use Rattle.register.specs.Apart.{apart_word}
@@ -12,6 +12,3 @@ invariant-loop-i l = record {
   few : l.kept ≤ l.i;
   stand : take l.kept l.to ≡ filter (apart_word l.«record») (take l.i l.links);
 }
-
-abbrev pub decreases-loop-i : goal.decreases-loop-i
-decreases-loop-i l = length l.links - l.i

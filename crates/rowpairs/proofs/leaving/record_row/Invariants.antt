@@ -1,5 +1,5 @@
 -- The bits are the first i of the records. The measure is the records left. Assumes nothing.
-use Rattle.std.proofs.Common.{◌≡◌, ℕ, ◌-◌, ◌≤◌, List, length, take}
+use Rattle.std.proofs.Common.{◌≡◌, ℕ, ◌≤◌, List, length, take}
 use Rattle.k2.specs.Bits.{bit_at}
 use Rattle.rowpairs.specs.Evaluation.{Members}
 use Rattle.rowpairs.proofs.leaving.record_row.Given as goal
@@ -12,6 +12,3 @@ pub record Loop (records row : List ℕ) (i : ℕ) : Type 0 where
 
 abbrev pub invariant-loop-i : goal.invariant-loop-i
 invariant-loop-i l = Loop l.records l.row l.i
-
-abbrev pub decreases-loop-i : goal.decreases-loop-i
-decreases-loop-i l = length l.records - l.i

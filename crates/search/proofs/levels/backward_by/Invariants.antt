@@ -39,9 +39,6 @@ pub record Loop (arcs predecessors enter work₀ : List ℕ) (n end accepting : 
 abbrev pub invariant-loop-i : goal.invariant-loop-i
 invariant-loop-i l = Inner l.fn.arcs l.fn.predecessors l.fn.enter l.seen l.fn.ends.n l.records l.masks l.count l.next l.list l.queued l.i
 
-abbrev pub decreases-loop-i : goal.decreases-loop-i
-decreases-loop-i l = l.count - l.i
-
 abbrev pub invariant-loop-seen : goal.invariant-loop-seen
 invariant-loop-seen l =
     Loop l.fn.arcs l.fn.predecessors l.fn.enter l.fn.work l.fn.ends.n l.fn.ends.to l.fn.ends.accepting l.work

@@ -1,5 +1,5 @@
 -- The first i records of the list are marked, seen, held, and cleared in next (`Committing`). The measure is what is left of the list.
-use Rattle.std.proofs.Common.{List, ℕ, ◌≡◌, ◌-◌, ◌≤◌, length}
+use Rattle.std.proofs.Common.{List, ℕ, ◌≡◌, ◌≤◌, length}
 use Rattle.search.proofs.CommitLaws.{Committing}
 use Rattle.search.proofs.levels.commit.Given as goal
 
@@ -16,6 +16,3 @@ pub record Loop (work₀ seen₀ next₀ list : List ℕ) (mark : ℕ) (records�
 abbrev pub invariant-loop-i : goal.invariant-loop-i
 invariant-loop-i l =
     Loop l.fn.work l.fn.seen l.fn.next l.list l.mark l.fn.records l.fn.masks l.work l.seen l.next l.records l.masks l.i
-
-abbrev pub decreases-loop-i : goal.decreases-loop-i
-decreases-loop-i l = length l.list - l.i

@@ -1,6 +1,6 @@
 -- The words past the steps are as they were, and the steps written so far, put before any best walk from where they lead, are a best walk from the start
 -- (Going). The measure is the number of steps to come.
-use Rattle.std.proofs.Common.{List, ℕ, suc, ◌≡◌, ◌-◌, ◌≤◌, ◌<◌, length, drop}
+use Rattle.std.proofs.Common.{List, ℕ, suc, ◌≡◌, ◌≤◌, ◌<◌, length, drop}
 use Rattle.paths.specs.Chains.{Graph}
 use Rattle.automaton.specs.Automata.{Automaton}
 use Rattle.automaton.specs.Searches.{Known}
@@ -19,6 +19,3 @@ pub record Loop (arcs follow enter work seen out₀ : List ℕ) (n steps at₀ :
 
 abbrev pub invariant-loop-t : goal.invariant-loop-t
 invariant-loop-t l = Loop l.fn.arcs l.fn.follow l.fn.enter l.fn.work l.fn.seen l.fn.out l.fn.route.n l.fn.route.steps l.fn.route.from l.out l.at l.states l.t
-
-abbrev pub decreases-loop-t : goal.decreases-loop-t
-decreases-loop-t l = l.fn.route.steps - l.t
