@@ -191,7 +191,7 @@ impl Closing<'_> {
     // A step of the search in depth: a record that row x leads to and that is not seen yet, which then is; if there is none, row x is closed.
     fn deeper(&mut self, x: usize) -> Option<usize>
         ensures goes { Goes self.old self.new }
-        ensures below { IfSome result (λ z. z < max_records) }
+        ensures below { IfSome result (λ z. z < self.old.n) }
     {
         if self.n <= x {
             return None;

@@ -3,7 +3,7 @@
 // part of the work that begins with its left operand, and may use what stands after its operands.
 //
 // words.rt has the bits of one word, row.rt one row, putting.rt pairs put into a relation, algebra.rt union, product and transposition, closing.rt the
-// closure, listing.rt the list, counting.rt how many pairs there are, spreading.rt the relation as rows of 1,024 bits.
+// closure over the state that state.rt has, listing.rt the list, counting.rt how many pairs there are, spreading.rt the relation as rows of 1,024 bits.
 #![tactic(auto)]
 
 mod algebra;

@@ -1,6 +1,5 @@
-// These functions work on one row: they put a word or another row into it, and find a column that another row has too. Of rows of w words, word c of row t
-// stands
-// at place t * w + c.
+// These functions work on one row: they put a word or another row into it, and find a column that another row has too. Of rows of w words, word c
+// of row t stands at place t * w + c.
 ghost use Rattle.std.specs.Prelude.{◌≢◌, ◌+◌, ◌*◌, ◌≤◌, ◌<◌, length};
 ghost use Rattle.k2.specs.Bits.{bit_at};
 ghost use Rattle.bits.specs.BitSets.{both};
